@@ -1,0 +1,5 @@
+pub mod Kinds
+pub mod Checks
+pub mod Outcome
+pub mod Gather
+pub mod Examples

@@ -1,0 +1,88 @@
+// The checks that every input passes first: refusals 1 to 4, in that order.
+ghost use mathlib.Core.Path.{_≡_};
+ghost use Rattle.base.specs.Checks.{blockFits, blockRefusal, elementFits, elementRefusal, holdsSeparator, inputRefusal, strays};
+use super::kinds::Kind;
+use super::kinds::is_kind;
+use super::kinds::node_count;
+use super::refusals::Refusal;
+
+// The first of the refusals 1 to 4 that one element's list meets, or 0.
+pub fn element_refusal(kind: u64, ids: &[u64]) -> u64
+    ensures { λ r. ⌜ r ≡ elementRefusal kind (now (ids .entry)) ⌝ }
+{
+    let fits = element_fits(kind, ids.len());
+    input_refusal(kind, ids, Kind::ELEMENT_LIMIT, fits)
+}
+
+// The first of the refusals 1 to 4 that a block of one kind meets, or 0.
+pub fn block_refusal(kind: u64, ids: &[u64]) -> u64
+    ensures { λ r. ⌜ r ≡ blockRefusal kind (now (ids .entry)) ⌝ }
+{
+    let fits = block_fits(kind, ids.len());
+    input_refusal(kind, ids, Kind::BLOCK_LIMIT, fits)
+}
+
+// What the two share: the limit and the verdict on the node count differ.
+fn input_refusal(kind: u64, ids: &[u64], limit: usize, fits: bool) -> u64
+    ensures { λ r. ⌜ r ≡ inputRefusal limit fits kind (now (ids .entry)) ⌝ }
+{
+    if !is_kind(kind) {
+        return Refusal::UNKNOWN_KIND;
+    }
+    if limit < ids.len() {
+        return Refusal::TOO_MANY_ENTRIES;
+    }
+    if !fits {
+        return Refusal::WRONG_NODE_COUNT;
+    }
+    if strays(kind, ids) {
+        return Refusal::STRAY_SEPARATOR;
+    }
+    0
+}
+
+// Whether one element of the kind may have n entries.
+fn element_fits(kind: u64, n: usize) -> bool
+    ensures { λ r. ⌜ r ≡ elementFits kind n ⌝ }
+{
+    let nodes = node_count(kind);
+    if nodes == 0 {
+        return kind == Kind::PHED || 0 < n;
+    }
+    n == nodes
+}
+
+// Whether a block of the kind may have n ids.
+fn block_fits(kind: u64, n: usize) -> bool
+    ensures { λ r. ⌜ r ≡ blockFits kind n ⌝ }
+{
+    let nodes = node_count(kind);
+    if nodes == 0 {
+        return true;
+    }
+    n % nodes == 0
+}
+
+// Whether a separator stands where the kind has none.
+fn strays(kind: u64, ids: &[u64]) -> bool
+    ensures { λ r. ⌜ r ≡ strays kind (now (ids .entry)) ⌝ }
+{
+    if kind == Kind::PHED {
+        return false;
+    }
+    holds_separator(ids)
+}
+
+// Whether a separator stands in the list. The whole list is read with no early end, so that the
+// loop has no branch to mispredict and works on several ids at a time.
+fn holds_separator(ids: &[u64]) -> bool
+    ensures { λ r. ⌜ r ≡ holdsSeparator (now (ids .entry)) ⌝ }
+{
+    let mut found = false;
+    let mut i = 0;
+    while i < ids.len() {
+        found = found | (ids[i] == Kind::SEPARATOR);
+        i += 1;
+    }
+    found
+}

@@ -1,0 +1,49 @@
+// The writers over the front of a lent slice; what lies behind the answer stays.
+ghost use mathlib.Core.Path.{_≡_};
+ghost use Prim.Native.Nat.{_≤_};
+ghost use lib.ListN.{getD, length};
+ghost use Rattle.base.specs.Gather.{pick};
+ghost use Rattle.base.specs.Kinds.{separator};
+ghost use Rattle.base.specs.Outcome.{overwrite};
+use super::kinds::Kind;
+
+// The list over the front of out.
+pub fn copy(list: &[u64], out: &mut [u64])
+    requires { ⌜ length (now list) ≤ length (now out) ⌝ }
+    ensures { λ _. ⌜ now (out .exit) ≡ overwrite (now (list .entry)) (now (out .entry)) ⌝ }
+{
+    let mut i = 0;
+    while i < list.len() {
+        out[i] = list[i];
+        i += 1;
+    }
+}
+
+// The ids at a row of corner numbers over the front of out.
+pub fn gather(ids: &[u64], row: &[u8], out: &mut [u64])
+    requires { ⌜ length (now row) ≤ length (now out) ⌝ }
+    ensures { λ _. ⌜ now (out .exit) ≡ overwrite (pick (now (ids .entry)) (now (row .entry))) (now (out .entry)) ⌝ }
+{
+    let mut i = 0;
+    while i < row.len() {
+        out[i] = node(ids, wide(row[i]));
+        i += 1;
+    }
+}
+
+// The id at a corner; a corner past the last node stands for the separator.
+pub fn node(ids: &[u64], corner: usize) -> u64
+    ensures { λ r. ⌜ r ≡ getD (now (ids .entry)) corner separator ⌝ }
+{
+    if corner < ids.len() {
+        ids[corner]
+    } else {
+        Kind::SEPARATOR
+    }
+}
+
+fn wide(corner: u8) -> usize
+    ensures { λ r. ⌜ r ≡ corner ⌝ }
+{
+    corner as usize
+}
