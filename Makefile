@@ -1,0 +1,36 @@
+# make        prove and build all
+# make test   the whole test; its last line is 'N passed, 0 failed' only if all of it passed
+# make demo   cut the sample door
+# make fmt    lay out every Rattle file
+# make clean  remove what was built
+
+KIT := rattle-kit-5b logic 064da1ca440f63e7
+
+.PHONY: all test demo fmt clean kit
+
+all: kit
+	@rt check
+
+test: kit
+	@sh host/test
+
+demo: kit
+	@echo 'tallyspool: there is nothing to show yet: the program that cuts a file of cells, `split`, is not built.'
+	@echo 'tallyspool: what is here are proved layers of the library; `make test` proves and tests them.'
+
+fmt: kit
+	@rt fmt
+
+clean:
+	@rm -rf target
+
+kit:
+	@command -v rt >/dev/null || { \
+	    echo 'tallyspool: the command rt is not on the PATH.' >&2; \
+	    echo 'tallyspool: install the Rattle kit "$(KIT)" and put its folder bin/ on the PATH.' >&2; \
+	    exit 1; }
+	@found=$$(rt version 2>/dev/null); test "$$found" = '$(KIT)' || { \
+	    echo "tallyspool: this is another Rattle kit than the one that the proofs are pinned to." >&2; \
+	    echo 'tallyspool: wanted "$(KIT)" (KIT in the Makefile)' >&2; \
+	    echo "tallyspool: found  \"$$found\" (rt version)" >&2; \
+	    exit 1; }
