@@ -1,10 +1,10 @@
 -- Laws of ids picked by a row of corners.
-use mathlib.Core.Path.{_≡_, refl}
-use Prim.Native.Nat.{ℕ, zero, suc, _<_}
+use mathlib.Core.Path.{_≡_, refl, _∙_}
+use Prim.Native.Nat.{ℕ, zero, suc, _-_, _<_}
 use native.Mathlib.Nat.{le-of-suc-le-suc, not-suc-le-zero}
 use mathlib.Core.List.{List, [], _∷_, _++_}
 use lib.ListN.{length, getD, length-map}
-use Rattle.base.specs.Gather.{pick}
+use Rattle.base.specs.Gather.{pick, undigit}
 use Rattle.base.specs.Kinds.{separator}
 
 pub length-pick : (ids row : List ℕ) → length (pick ids row) ≡ length row
@@ -17,6 +17,17 @@ unfolding pick
 pick-at ids [] i h = absurd (not-suc-le-zero h)
 pick-at ids (c ∷ row) zero h = refl
 pick-at ids (c ∷ row) (suc i) h = pick-at ids row i (le-of-suc-le-suc h)
+
+-- the same for a row of digits
+pub length-undigit : (ids row : List ℕ) → length (pick ids (undigit row)) ≡ length row
+length-undigit ids row = length-pick ids (undigit row) ∙ length-map row (λ digit. digit - 48)
+
+pub undigit-at : (ids row : List ℕ) (i : ℕ) → i < length row
+    → getD (pick ids (undigit row)) i 0 ≡ getD ids (getD row i 0 - 48) separator
+unfolding pick
+undigit-at ids [] i h = absurd (not-suc-le-zero h)
+undigit-at ids (d ∷ row) zero h = refl
+undigit-at ids (d ∷ row) (suc i) h = undigit-at ids row i (le-of-suc-le-suc h)
 
 pub pick-append : (ids row more : List ℕ) → pick ids (row ++ more) ≡ pick ids row ++ pick ids more
 unfolding pick

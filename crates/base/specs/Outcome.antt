@@ -33,20 +33,10 @@ decide refusal why short gives lent =
 abbrev pub orElse : ℕ → ℕ → ℕ
 orElse why other = cond (eqb why 0) other why
 
--- a refusal has kind 0 and count 0
-abbrev pub refused : ℕ → Answer
-refused why = record { refusal = why; kind = 0; count = 0 }
-
-abbrev pub given : ℕ → ℕ → Answer
-given kind count = record { refusal = 0; kind = kind; count = count }
-
 -- one lent slice, over whose front xs is written
-unfoldable pub settle : ℕ → ℕ → ℕ → List ℕ → List ℕ → Outcome Answer (List ℕ)
-settle why kind count xs out =
-    decide refused why
-    (ltb (length out) (length xs))
-    (record { answer = given kind count; lent = overwrite xs out })
-    out
+unfoldable pub settleOne : {A : Type 0} → (ℕ → A) → ℕ → A → List ℕ → List ℕ → Outcome A (List ℕ)
+settleOne refusal why answer xs out =
+    decide refusal why (ltb (length out) (length xs)) (record { answer = answer; lent = overwrite xs out }) out
 
 -- two lent slices, over whose fronts xs and ys are written, or neither
 unfoldable pub settleTwo : {A : Type 0} → (ℕ → A) → ℕ → A → List ℕ → List ℕ → List ℕ × List ℕ → Outcome A (List ℕ × List ℕ)
@@ -55,3 +45,14 @@ settleTwo refusal why answer xs ys lent =
     (ltb (length (lent .0)) (length xs) || ltb (length (lent .1)) (length ys))
     (record { answer = answer; lent = (overwrite xs (lent .0), overwrite ys (lent .1)) })
     lent
+
+-- a refusal has kind 0 and count 0
+abbrev pub refused : ℕ → Answer
+refused why = record { refusal = why; kind = 0; count = 0 }
+
+abbrev pub given : ℕ → ℕ → Answer
+given kind count = record { refusal = 0; kind = kind; count = count }
+
+-- one lent slice, and the answer of most operations
+unfoldable pub settle : ℕ → ℕ → ℕ → List ℕ → List ℕ → Outcome Answer (List ℕ)
+settle why kind count xs out = settleOne refused why (given kind count) xs out

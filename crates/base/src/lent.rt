@@ -1,8 +1,8 @@
 // The writers over the front of a lent slice; what lies behind the answer stays.
 ghost use mathlib.Core.Path.{_≡_};
-ghost use Prim.Native.Nat.{_≤_};
+ghost use Prim.Native.Nat.{_-_, _≤_};
 ghost use lib.ListN.{getD, length};
-ghost use Rattle.base.specs.Gather.{pick};
+ghost use Rattle.base.specs.Gather.{pick, undigit};
 ghost use Rattle.base.specs.Kinds.{separator};
 ghost use Rattle.base.specs.Outcome.{overwrite};
 use super::kinds::Kind;
@@ -31,6 +31,18 @@ pub fn gather(ids: &[u64], row: &[u8], out: &mut [u64])
     }
 }
 
+// The same for a row that is written as digits.
+pub fn gather_digits(ids: &[u64], row: &[u8], out: &mut [u64])
+    requires { ⌜ length (now row) ≤ length (now out) ⌝ }
+    ensures { λ _. ⌜ now (out .exit) ≡ overwrite (pick (now (ids .entry)) (undigit (now (row .entry)))) (now (out .entry)) ⌝ }
+{
+    let mut i = 0;
+    while i < row.len() {
+        out[i] = node(ids, corner_of(row[i]));
+        i += 1;
+    }
+}
+
 // The id at a corner; a corner past the last node stands for the separator.
 pub fn node(ids: &[u64], corner: usize) -> u64
     ensures { λ r. ⌜ r ≡ getD (now (ids .entry)) corner separator ⌝ }
@@ -40,6 +52,16 @@ pub fn node(ids: &[u64], corner: usize) -> u64
     } else {
         Kind::SEPARATOR
     }
+}
+
+// The corner that a digit of ASCII stands for. The colon, which follows 9, stands for corner 10.
+fn corner_of(digit: u8) -> usize
+    ensures { λ r. ⌜ r ≡ digit - 48 ⌝ }
+{
+    if digit < 48 {
+        return 0;
+    }
+    wide(digit - 48)
 }
 
 fn wide(corner: u8) -> usize

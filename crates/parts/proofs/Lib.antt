@@ -1,0 +1,4 @@
+pub mod Tables
+mod Digits
+mod Sides
+mod Apart
