@@ -25,7 +25,7 @@ seg3s rows = part 3 rows ∷ []
 abbrev tri3s : List ℕ → List Part
 tri3s rows = part 5 rows ∷ []
 
-abbrev quad4s : List ℕ → List Part
+abbrev pub quad4s : List ℕ → List Part
 quad4s rows = part 8 rows ∷ []
 
 -- by codimension, from 1
