@@ -2,3 +2,9 @@
 pub mod Laws
 pub mod Least
 pub mod Cuts
+pub mod KindTest
+pub mod Winding
+pub mod OneCell
+pub mod NoSlit
+pub mod Shared
+pub mod Demand3
