@@ -102,7 +102,7 @@ either : {A : Type 0} (P : A → Type 0) (b : Bool) {x y : A} → P x → P y �
 either P true p q = p
 either P false p q = q
 
-rows-most : (kind : ℕ) (ids : List ℕ) → length (cut kind ids .rows) ≤ 6
+pub rows-most : (kind : ℕ) (ids : List ℕ) → length (cut kind ids .rows) ≤ 6
 unfolding cut
 rows-most kind ids =
     let few : Cut → Type 0 = λ c. length (c .rows) ≤ 6 in

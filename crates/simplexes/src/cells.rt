@@ -8,7 +8,7 @@ ghost use Rattle.base.specs.Gather.{corners};
 ghost use Rattle.base.specs.Kinds.{nodesOf};
 ghost use Rattle.simplexes.specs.Rows.{quadRows, segRows};
 ghost use Rattle.simplexes.specs.Smallest.{firstDiagonal, smallestPos};
-ghost use Rattle.simplexes.specs.Split.{Written, cut, hexCase, hexCut, renumbered, simplexes, split, splitKind, wedgeCut};
+ghost use Rattle.simplexes.specs.Split.{Written, cut, hexCase, hexCut, renumbered, simplexes, split, splitCount, splitKind, wedgeCut};
 use super::rows;
 use super::smallest::first_diagonal;
 use super::smallest::smallest;
@@ -51,6 +51,13 @@ fn write_hex(ids: &[u64], out: &mut [u64]) -> u64
     let n = count as usize * Kind::TET4_NODES;
     gather(&cell, &corners[..n], out);
     count
+}
+
+// How many tetrahedra a brick is cut into.
+pub fn count_hex(ids: &[u64]) -> u64
+    ensures { λ r. ⌜ (r ≡ splitCount 15 (now (ids .entry))) × (r ≤ 6) ⌝ }
+{
+    rows::hex_count(hex_case(renumber(ids)))
 }
 
 // The ids of a brick, renumbered by the place of its smallest.
