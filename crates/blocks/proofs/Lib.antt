@@ -1,0 +1,2 @@
+-- The laws behind the proofs of a block's split.
+pub mod Parts

@@ -1,0 +1,143 @@
+// Blocks of cells of one kind, split cell by cell into one lent output.
+ghost use mathlib.Core.Path.{_≡_};
+ghost use mathlib.Core.Bool.{true};
+ghost use mathlib.Core.List.{_++_};
+ghost use Prim.Native.Nat.{_*_, _+_, _≤_};
+ghost use lib.Dec.{leb};
+ghost use lib.ListN.{drop, length, take};
+ghost use Rattle.base.specs.Kinds.{nodesOf};
+ghost use Rattle.base.specs.Outcome.{Permits, overwrite};
+ghost use Rattle.simplexes.specs.Demand3.{isSolid, splits};
+ghost use Rattle.simplexes.specs.Split.{split, splitCount};
+ghost use Rattle.blocks.specs.Blocks.{Filled, cells, counts, splitBlock, splitBlockRefusal};
+use base::checks::block_refusal;
+use base::kinds::Kind;
+use base::kinds::node_count;
+use base::refusals::Answer;
+use base::refusals::Refusal;
+use simplexes::cells::count_hex;
+use simplexes::cells::write_cell;
+
+// The tetrahedra of a block of TET4, WEDGE6 or HEX8 over the front of out, cell after cell. It
+// refuses with 1 to 4, then 6 for another kind, then 7 if out is shorter than what is to be written.
+pub fn split_block(kind: u64, ids: &[u64], out: &mut [u64]) -> Answer
+    ensures { λ r. ⌜ Permits (splitBlock kind (now (ids .entry)) (now (out .entry))) r (now (out .exit)) ⌝ }
+{
+    let refusal = split_block_refusal(kind, ids);
+    if refusal != 0 {
+        return Answer::refused(refusal);
+    }
+    let nodes = node_count(kind);
+    let n = ids.len() / nodes;
+    if has_room(kind, ids, n, out.len()) {
+        let count = write_cells(kind, ids, n, out);
+        return Answer::given(Kind::TET4, count);
+    }
+    Answer::refused(Refusal::SHORT_OUTPUT)
+}
+
+// The first of the refusals 1 to 4 and 6 that a block meets, or 0.
+fn split_block_refusal(kind: u64, ids: &[u64]) -> u64
+    ensures { λ r. ⌜ r ≡ splitBlockRefusal kind (now (ids .entry)) ⌝ }
+{
+    let refusal = block_refusal(kind, ids);
+    if refusal != 0 {
+        return refusal;
+    }
+    if is_solid(kind) {
+        return 0;
+    }
+    Refusal::NO_RULE
+}
+
+// Whether the kind fills space.
+fn is_solid(kind: u64) -> bool
+    ensures { λ r. ⌜ r ≡ isSolid kind ⌝ }
+{
+    match kind {
+        Kind::TET4 => true,
+        Kind::WEDGE6 => true,
+        Kind::HEX8 => true,
+        _ => false,
+    }
+}
+
+// Whether the tetrahedra of the first n cells find room. A brick has five or six of them, so bricks
+// are counted only where six each do not fit.
+fn has_room(kind: u64, ids: &[u64], n: usize, room: usize) -> bool
+    requires { ⌜ (isSolid kind ≡ true) × (n * nodesOf kind ≤ length (now ids)) × (length (now ids) ≤ 65536) ⌝ }
+    ensures { λ r. ⌜ r ≡ leb (counts (cells kind n (now (ids .entry))) * 4) room ⌝ }
+{
+    if kind == Kind::TET4 {
+        return n * TET4_IDS <= room;
+    }
+    if kind == Kind::WEDGE6 {
+        return n * WEDGE6_IDS <= room;
+    }
+    if n * HEX8_IDS <= room {
+        return true;
+    }
+    count_bricks(ids, n) * TET4_IDS <= room
+}
+
+// How many ids the tetrahedra of one cell take, of a brick at most.
+const TET4_IDS: usize = 4;
+
+const WEDGE6_IDS: usize = 12;
+
+const HEX8_IDS: usize = 24;
+
+// How many tetrahedra the first n bricks are cut into.
+fn count_bricks(ids: &[u64], n: usize) -> usize
+    requires { ⌜ (n * 8 ≤ length (now ids)) × (length (now ids) ≤ 65536) ⌝ }
+    ensures { λ r. ⌜ (r ≡ counts (cells 15 n (now (ids .entry)))) × (r ≤ 6 * n) ⌝ }
+{
+    let mut count = 0;
+    let mut i = 0;
+    while i < n {
+        count += count_at(ids, i);
+        i += 1;
+    }
+    count
+}
+
+// How many tetrahedra brick i is cut into.
+fn count_at(ids: &[u64], i: usize) -> usize
+    requires { ⌜ i * 8 + 8 ≤ length (now ids) ⌝ }
+    ensures { λ r. ⌜ (r ≡ splitCount 15 (take 8 (drop (i * 8) (now (ids .entry))))) × (r ≤ 6) ⌝ }
+{
+    let from = i * Kind::HEX8_NODES;
+    let end = from + Kind::HEX8_NODES;
+    count_hex(&ids[from..end]) as usize
+}
+
+// The tetrahedra of the first n cells over the front of out, and their number.
+fn write_cells(kind: u64, ids: &[u64], n: usize, out: &mut [u64]) -> u64
+    requires { ⌜ (isSolid kind ≡ true) × (n * nodesOf kind ≤ length (now ids)) ⌝ }
+    requires { ⌜ length (splits (cells kind n (now ids))) ≤ length (now out) ⌝ }
+    ensures { λ r. ⌜ Filled (cells kind n (now (ids .entry))) (now (out .entry)) r (now (out .exit)) ⌝ }
+{
+    let nodes = node_count(kind);
+    let mut at = 0;
+    let mut count = 0;
+    let mut i = 0;
+    while i < n {
+        let made = write_at(kind, ids, nodes, i, out, at);
+        at += made as usize * TET4_IDS;
+        count += made;
+        i += 1;
+    }
+    count
+}
+
+// The tetrahedra of cell i into the part of out that starts at `at`, and their number.
+fn write_at(kind: u64, ids: &[u64], nodes: usize, i: usize, out: &mut [u64], at: usize) -> u64
+    requires { ⌜ i * nodes + nodes ≤ length (now ids) ⌝ }
+    requires { ⌜ at + length (split kind (take nodes (drop (i * nodes) (now ids)))) ≤ length (now out) ⌝ }
+    ensures { λ r. ⌜ r ≡ splitCount kind (take nodes (drop (i * nodes) (now (ids .entry)))) ⌝ }
+    ensures { λ _. ⌜ now (out .exit) ≡ take at (now (out .entry)) ++ overwrite (split kind (take nodes (drop (i * nodes) (now (ids .entry))))) (drop at (now (out .entry))) ⌝ }
+{
+    let from = i * nodes;
+    let end = from + nodes;
+    write_cell(kind, &ids[from..end], &mut out[at..])
+}

@@ -1,0 +1,10 @@
+-- The laws behind the proofs of the split.
+pub mod Laws
+pub mod Least
+pub mod Cuts
+pub mod KindTest
+pub mod Winding
+pub mod OneCell
+pub mod NoSlit
+pub mod Shared
+pub mod Demand3
