@@ -1,0 +1,168 @@
+-- The edges of the faces, read off the caller's list place by place.
+use Prim.Native.Nat.{ℕ, suc, zero, _+_, _-_, _≤_, _<_}
+use mathlib.Core.Path.{_≡_, refl, sym, ap, _∙_}
+use mathlib.Core.List.{List, [], _∷_, _++_}
+use mathlib.Core.Bool.{Bool, true, false, cond, _&&_, _||_}
+use native.Mathlib.Numerals.{add-one, sub-one}
+use native.Mathlib.Nat.{add-zero}
+use native.Mathlib.Omega.{arith}
+use lib.ListN.{length, getD, drop, drop-of-length-le}
+use lib.Seq.{drop-cons, getD-drop}
+use lib.Dec.{eqb}
+use borrow.Author.Tests.{eqb-true, eqb-false, eq-eqb, ne-eqb}
+use Rattle.base.specs.Kinds.{separator}
+use Rattle.faces.specs.Faces.{Runs, onto, runs, lead, full, faces}
+use Rattle.faces.specs.Edges.{Edge, edge, along, cycle, edges, same, hits, count, twice}
+use Rattle.recognise.specs.Places.{head, follower}
+
+-- an entry's edge goes in front, unless the entry is a separator (true)
+abbrev pub emit : Bool → Edge → List Edge → List Edge
+emit true e es = es
+emit false e es = e ∷ es
+
+-- the edges of a list whose first face began with f
+unfoldable pub flat : ℕ → List ℕ → List Edge
+flat f [] = []
+flat f (x ∷ l) =
+    emit (eqb x separator) (edge x (cond (eqb (getD l 0 separator) separator) f (getD l 0 separator)))
+    (flat (cond (eqb x separator) (getD l 0 separator) f) l)
+
+-- the entry after a node, or f where its face ends there
+next-entry : (f : ℕ) (l : List ℕ)
+    → cond (eqb (getD l 0 separator) separator) f (getD l 0 separator) ≡ getD (runs l .first) 0 f
+unfolding runs
+next-entry f [] = refl
+next-entry f (x ∷ l) = go (eqb x separator)
+  where
+    go : (b : Bool) → cond b f x ≡ getD (onto b x (runs l) .first) 0 f
+    go true = refl
+    go false = refl
+
+first-entry : (l : List ℕ) → getD l 0 separator ≡ getD (runs l .first) 0 separator
+unfolding runs
+first-entry [] = refl
+first-entry (x ∷ l) = go (eqb x separator) refl
+  where
+    go : (b : Bool) → eqb x separator ≡ b → x ≡ getD (onto b x (runs l) .first) 0 separator
+    go true e = eqb-true x separator e
+    go false e = refl
+
+lead-edges : (r : List ℕ) (fs : List (List ℕ)) → edges (lead r fs) ≡ cycle r ++ edges fs
+unfolding edges along
+lead-edges [] fs = refl
+lead-edges (x ∷ r) fs = refl
+
+flat-runs : (f : ℕ) (l : List ℕ) → flat f l ≡ along f (runs l .first) ++ edges (full (runs l .rest))
+unfolding flat runs along full edges
+flat-runs f [] = refl
+flat-runs f (x ∷ l) = go (eqb x separator) (flat-runs f l) (flat-runs (getD l 0 separator) l)
+  where
+    go : (b : Bool) → flat f l ≡ along f (runs l .first) ++ edges (full (runs l .rest))
+        → flat (getD l 0 separator) l ≡ along (getD l 0 separator) (runs l .first) ++ edges (full (runs l .rest))
+        → emit b (edge x (cond (eqb (getD l 0 separator) separator) f (getD l 0 separator))) (flat (cond b (getD l 0 separator) f) l)
+        ≡ along f (onto b x (runs l) .first) ++ edges (full (onto b x (runs l) .rest))
+    go true p q = q ∙ rw (lead-edges, ← first-entry)
+    go false p q = rw (← next-entry, p)
+
+-- the edges read off the whole list are those of the faces
+pub flat-faces : (l : List ℕ) → flat (head l 0) l ≡ edges (faces l)
+unfolding faces head
+flat-faces l = flat-runs (getD l 0 separator) l ∙ rw (lead-edges, ← first-entry)
+
+-- what starts at place i, and what is left from there on
+module _ (l : List ℕ) (i : ℕ) where
+  abbrev pub here : ℕ
+  here = getD l i separator
+
+  abbrev pub left : List Edge
+  left = flat (head l i) (drop i l)
+
+module _ (l : List ℕ) (i : ℕ) (h : i < length l) where
+  flat-step : left l i ≡ emit (eqb (here l i) separator) (edge (here l i) (follower l i)) (left l (i + 1))
+  unfolding flat head
+  flat-step = simp (add-one, drop-cons l i separator h, getD-drop, add-zero)
+
+  pub count-step : (d : Edge) → count d (left l i)
+      ≡ cond (eqb (here l i) separator) 0 (hits d (edge (here l i) (follower l i))) + count d (left l (i + 1))
+  unfolding count
+  count-step d = rw flat-step (go (eqb (here l i) separator))
+    where
+      go : (b : Bool) → count d (emit b (edge (here l i) (follower l i)) (left l (i + 1)))
+          ≡ cond b 0 (hits d (edge (here l i) (follower l i))) + count d (left l (i + 1))
+      go true = omega arith
+      go false = refl
+
+  pub twice-step : (all : List Edge) → twice all (left l i)
+      ≡ ((eqb (here l i) separator || eqb (count (edge (here l i) (follower l i)) all) 2) && twice all (left l (i + 1)))
+  unfolding twice
+  twice-step all = rw flat-step (go (eqb (here l i) separator))
+    where
+      go : (b : Bool) → twice all (emit b (edge (here l i) (follower l i)) (left l (i + 1)))
+          ≡ ((b || eqb (count (edge (here l i) (follower l i)) all) 2) && twice all (left l (i + 1)))
+      go true = refl
+      go false = refl
+
+-- past the last entry no edge is left
+pub none-left : (l : List ℕ) (i : ℕ) → length l ≤ i → left l i ≡ []
+unfolding flat
+none-left l i h = rw (drop-of-length-le l h)
+
+-- a face begins at k where the entry before is a separator (true), else its first node is that of the place before
+pub head-back : (l : List ℕ) (k : ℕ) (b : Bool) → 0 < k → eqb (getD l (k - 1) separator) separator ≡ b
+    → head l k ≡ cond b (getD l k separator) (head l (k - 1))
+unfolding head
+head-back l zero b h e = absurd (omega arith)
+head-back l (suc k) b h e = let p : suc k - 1 ≡ k = omega arith in rw (p, rw p at e)
+
+-- an edge ends in no separator
+head-id : (l : List ℕ) (i : ℕ) → (getD l i separator ≡ separator → ⊥) → head l i ≡ separator → ⊥
+unfolding head
+head-id l zero h e = h e
+head-id l (suc i) h e = go (eqb (getD l i separator) separator) refl (head-id l i) e
+  where
+    go : (b : Bool) → eqb (getD l i separator) separator ≡ b
+        → ((getD l i separator ≡ separator → ⊥) → head l i ≡ separator → ⊥)
+        → cond b (getD l (suc i) separator) (head l i) ≡ separator → ⊥
+    go true q before e = h e
+    go false q before e = before (eqb-false _ _ q) e
+
+pub follower-id : (l : List ℕ) (i : ℕ) → (getD l i separator ≡ separator → ⊥) → follower l i ≡ separator → ⊥
+follower-id l i h e = go (eqb (getD l (i + 1) separator) separator) refl e
+  where
+    go : (b : Bool) → eqb (getD l (i + 1) separator) separator ≡ b
+        → cond b (head l i) (getD l (i + 1) separator) ≡ separator → ⊥
+    go true q e = head-id l i h e
+    go false q e = eqb-false _ _ q e
+
+-- how the edge from the entry x to y hits the one between a and b: x is a, it is b and not a, or it is neither
+module _ (a b x y : ℕ) where
+  abbrev pub hitsFrom : ℕ
+  hitsFrom = cond (eqb x separator) 0 (hits (edge a b) (edge x y))
+
+  pub hit-at-a : (a ≡ separator → ⊥) → x ≡ a → cond (eqb b y) 1 0 ≡ hitsFrom
+  hit-at-a n e = rw (e, ne-eqb a separator n, eq-eqb a a refl) (go (eqb b y) refl (eqb a y) refl)
+    where
+      go : (p : Bool) → eqb b y ≡ p → (q : Bool) → eqb a y ≡ q → _≡_ {A = ℕ} (cond p 1 0) (cond (p || q && eqb b a) 1 0)
+      go true r q s = refl
+      go false r true s = rw (eqb-true a y s, r)
+      go false r false s = refl
+
+  pub hit-at-b : (b ≡ separator → ⊥) → (x ≡ a → ⊥) → x ≡ b → cond (eqb a y) 1 0 ≡ hitsFrom
+  hit-at-b n m e =
+      let ne : a ≡ b → ⊥ = λ p. m (e ∙ sym p) in
+      rw (e, ne-eqb b separator n, ne-eqb a b ne, eq-eqb b b refl) (go (eqb a y))
+    where
+      go : (q : Bool) → _≡_ {A = ℕ} (cond q 1 0) (cond (q && true) 1 0)
+      go true = refl
+      go false = refl
+
+  pub hit-none : (x ≡ a → ⊥) → (x ≡ b → ⊥) → 0 ≡ hitsFrom
+  hit-none n m =
+      let na : a ≡ x → ⊥ = λ p. n (sym p) in
+      let nb : b ≡ x → ⊥ = λ p. m (sym p) in
+      rw (ne-eqb a x na, ne-eqb b x nb) (go (eqb x separator) (eqb a y))
+    where
+      go : (p q : Bool) → _≡_ {A = ℕ} 0 (cond p 0 (cond (q && false) 1 0))
+      go true q = refl
+      go false true = refl
+      go false false = refl

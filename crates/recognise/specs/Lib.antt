@@ -1,0 +1,9 @@
+pub mod Places
+pub mod Cells
+pub mod Seek
+pub mod Tet
+pub mod Wedge
+pub mod Brick
+pub mod Recognise
+pub mod FromPoly
+pub mod Examples

@@ -1,0 +1,69 @@
+// A PHED as the cell that its faces make.
+ghost use Rattle.faces.specs.Faces.{faces};
+ghost use Rattle.recognise.specs.Cells.{Holds};
+ghost use Rattle.recognise.specs.Recognise.{fromPhed, mixed, regular};
+ghost use Prim.Native.Nat.{_≤_};
+use super::brick::brick;
+use super::cells::Found;
+use super::lengths::nodes_in;
+use super::lengths::other_length;
+use super::lengths::tally;
+use super::surface::is_closed;
+use super::tet::tet;
+use super::wedge::wedge;
+use base::kinds::Kind;
+use base::refusals::Refusal;
+
+pub fn recognise(ids: &[u64]) -> Found
+    ensures { λ r. ⌜ Holds (fromPhed (now (ids .entry))) r ⌝ }
+{
+    let first = other_length(ids, 0, 0);
+    if first == 0 {
+        return Found::refused(Refusal::NO_FACE);
+    }
+    let second = other_length(ids, first, first);
+    if second == 0 {
+        return regular(ids);
+    }
+    if other_length(ids, first, second) == 0 {
+        return mixed(ids);
+    }
+    Found::refused(Refusal::THREE_FACE_LENGTHS)
+}
+
+// Faces of one length: a closed surface of four triangles or six quads.
+fn regular(ids: &[u64]) -> Found
+    ensures { λ r. ⌜ Holds (regular (faces (now (ids .entry)))) r ⌝ }
+{
+    if !is_closed(ids) {
+        return Found::refused(Refusal::OPEN_SURFACE);
+    }
+    if tally(ids, Kind::TRI3_NODES) == 4 {
+        let mut tris = [0u64; 12];
+        nodes_in(ids, Kind::TRI3_NODES, &mut tris);
+        return tet(&tris);
+    }
+    if tally(ids, Kind::QUAD4_NODES) == 6 {
+        let mut quads = [0u64; 24];
+        nodes_in(ids, Kind::QUAD4_NODES, &mut quads);
+        return brick(&quads);
+    }
+    Found::refused(Refusal::NO_SUCH_SURFACE)
+}
+
+// Faces of two lengths: two triangles and three quads.
+fn mixed(ids: &[u64]) -> Found
+    ensures { λ r. ⌜ Holds (mixed (faces (now (ids .entry)))) r ⌝ }
+{
+    if tally(ids, Kind::TRI3_NODES) != 2 {
+        return Found::refused(Refusal::NO_WEDGE_FACES);
+    }
+    if tally(ids, Kind::QUAD4_NODES) != 3 {
+        return Found::refused(Refusal::NO_WEDGE_FACES);
+    }
+    let mut tris = [0u64; 6];
+    nodes_in(ids, Kind::TRI3_NODES, &mut tris);
+    let mut quads = [0u64; 12];
+    nodes_in(ids, Kind::QUAD4_NODES, &mut quads);
+    wedge(&tris, &quads)
+}
