@@ -6,3 +6,6 @@ pub mod Rising
 pub mod Joined
 pub mod Written
 pub mod Passed
+pub mod Whole
+pub mod Grid
+pub mod Claims

@@ -5,3 +5,6 @@ pub mod Reference
 pub mod Space
 pub mod Scan
 pub mod Reorient
+pub mod Exact
+pub mod Claims
+pub mod Examples
