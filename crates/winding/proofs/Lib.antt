@@ -1,0 +1,11 @@
+-- The laws that the proofs of winding share, and what is claimed of its answers.
+pub mod Points
+pub mod Round
+pub mod Turned
+pub mod Rising
+pub mod Joined
+pub mod Written
+pub mod Passed
+pub mod Whole
+pub mod Grid
+pub mod Claims

@@ -1,0 +1,10 @@
+pub mod Turn
+pub mod Points
+pub mod Plane
+pub mod Reference
+pub mod Space
+pub mod Scan
+pub mod Reorient
+pub mod Exact
+pub mod Claims
+pub mod Examples

@@ -1,0 +1,106 @@
+// The writers of an answer: a run as it is or back to front, and the faces of a polyhedron.
+ghost use mathlib.Core.Path.{_≡_};
+ghost use mathlib.Core.Bool.{cond, false};
+ghost use Prim.Native.Nat.{_+_, _-_, _<_, _≤_};
+ghost use mathlib.Core.List.{map};
+ghost use lib.Dec.{eqb};
+ghost use lib.ListN.{length};
+ghost use lib.Seq.{paste};
+ghost use Rattle.base.specs.Kinds.{separator};
+ghost use Rattle.base.specs.Outcome.{overwrite};
+ghost use Rattle.faces.specs.Faces.{faces};
+ghost use Rattle.winding.specs.Points.{Placed, lacksPoint, pointCount};
+ghost use Rattle.winding.specs.Space.{joined, outward};
+ghost use Rattle.winding.specs.Turn.{turned};
+ghost use Rattle.winding.specs.Scan.{piece, splice};
+use super::point::Vector;
+use super::space::looks_in;
+use base::kinds::Kind;
+use faces::next_face;
+
+// The run as it is or back to front, over what out has from a place on.
+pub fn put_run(run: &[u64], back: bool, out: &mut [u64], at: usize)
+    requires { ⌜ at + length (now run) ≤ length (now out) ⌝ }
+    ensures { λ _. ⌜ now (out .exit) ≡ paste (now (out .entry)) at (turned back (now (run .entry))) (length (now (run .entry))) ⌝ }
+{
+    let n = run.len();
+    let mut i = 0;
+    while i < n {
+        let k = source(back, n, i);
+        out[at + i] = run[k];
+        i += 1;
+    }
+}
+
+// Which entry of a run of n is written at place i.
+fn source(back: bool, n: usize, i: usize) -> usize
+    requires { ⌜ i < n ⌝ }
+    ensures { λ r. ⌜ r ≡ cond back (n - 1 - i) i ⌝ }
+{
+    if back { n - 1 - i } else { i }
+}
+
+// How many entries the faces take in one list, a separator between two.
+pub fn faces_size(ids: &[u64]) -> usize
+    ensures { λ r. ⌜ r ≡ length (joined (faces (now (ids .entry)))) ⌝ }
+{
+    let mut size = 0;
+    let mut i = 0;
+    while i < ids.len() {
+        let face = next_face(ids, i);
+        size = grown(size, face.end - face.start);
+        i = face.end;
+    }
+    size
+}
+
+// How many entries there are once a face of n nodes stands behind them.
+fn grown(size: usize, n: usize) -> usize
+    requires { ⌜ size + n < separator ⌝ }
+    ensures { λ r. ⌜ r ≡ cond (eqb n 0) size (cond (eqb size 0) n (size + 1 + n)) ⌝ }
+{
+    if n == 0 {
+        return size;
+    }
+    if size == 0 {
+        return n;
+    }
+    size + 1 + n
+}
+
+// The faces, each looking away from the reference point, over the front of out.
+pub fn put_faces(points: &[f64], ids: &[u64], reference: Vector, out: &mut [u64])
+    requires { ⌜ lacksPoint (pointCount 3 (length (now points))) (now ids) ≡ false ⌝ }
+    requires { ⌜ length (joined (faces (now ids))) ≤ length (now out) ⌝ }
+    ensures { λ _. ⌜ now (out .exit) ≡ overwrite (joined (map (outward (now (points .entry)) reference) (faces (now (ids .entry))))) (now (out .entry)) ⌝ }
+{
+    let mut at = 0;
+    let mut i = 0;
+    while i < ids.len() {
+        let face = next_face(ids, i);
+        let start = face.start;
+        let end = face.end;
+        at = put_face(points, reference, &ids[start..end], out, at);
+        i = end;
+    }
+}
+
+// A face behind the entries that are written; how many there are then.
+fn put_face(points: &[f64], reference: Vector, face: &[u64], out: &mut [u64], at: usize) -> usize
+    requires { ⌜ Placed (pointCount 3 (length (now points))) (now face) ⌝ }
+    requires { ⌜ at + length (piece at (now face)) ≤ length (now out) ⌝ }
+    ensures { λ r. ⌜ (now (out .exit) ≡ splice (now (out .entry)) at (piece at (outward (now (points .entry)) reference (now (face .entry))))) × (r ≡ at + length (piece at (now (face .entry)))) ⌝ }
+{
+    let n = face.len();
+    if n == 0 {
+        return at;
+    }
+    let back = looks_in(points, reference, face);
+    if at == 0 {
+        put_run(face, back, out, 0);
+        return n;
+    }
+    out[at] = Kind::SEPARATOR;
+    put_run(face, back, out, at + 1);
+    at + 1 + n
+}
