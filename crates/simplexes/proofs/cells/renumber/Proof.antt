@@ -1,0 +1,29 @@
+-- `cells::renumber` meets its contract: the eight ids that are gathered fill the cell.
+use borrow.Author.Needs.{needs}
+use mathlib.Core.Path.{_≡_, _∙_, ap}
+use mathlib.Core.List.{List}
+use Prim.Native.Nat.{ℕ}
+use lib.ListN.{length}
+use Rattle.base.specs.Gather.{pick, digits}
+use Rattle.base.proofs.Picks.{length-pick}
+use Rattle.simplexes.specs.Rows.{branch, renumberings}
+use Rattle.simplexes.proofs.Laws.{fills}
+use Rattle.simplexes.proofs.cells.renumber.Statement.{statement}
+use Rattle.simplexes.proofs.cells.renumber.Tie as tie
+
+returns : tie.Need-returns
+returns c =
+    let r = c .before .before .before .before in
+    let corners = r .renumbering .result in
+    let ids = r .before .before .before .args .ids .now in
+    let eight : length corners ≡ 8 = search needs in
+    c .before .gather .ensures
+    ∙ fills (pick ids corners) _ (length-pick ids corners ∙ eight)
+    ∙ ap (pick ids) (r .renumbering .ensures ∙ ap (λ (k : ℕ). digits 8 (branch renumberings 0 k)) (r .before .smallest .ensures))
+
+pub renumber-spec : {M : Type 1} → statement M
+renumber-spec =
+    tie.close
+    (tie.spec
+    (λ c κs. search needs) (λ c κs. search needs) (λ c. search needs) (λ c. search needs) (λ c κs. search needs)
+    returns)

@@ -1,0 +1,3 @@
+pub mod Smallest
+pub mod Rows
+pub mod Split
