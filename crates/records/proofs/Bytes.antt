@@ -7,10 +7,13 @@ use native.Mathlib.Omega.{arith}
 use mathlib.Core.List.{List, [], _∷_, _++_, append-assoc, append-nil}
 use lib.ListN.{length, getD, take, drop, set, length-append, length-drop}
 use lib.Seq.{drop-cons, drop-drop, take-add, take-suc, length-take-le}
-use Rattle.base.specs.Outcome.{overwrite}
-use Rattle.base.proofs.Lists.{overwrite-more}
+use borrow.Author.Tests.{eq-eqb}
+use Rattle.base.specs.Outcome.{Permits, overwrite, given}
+use Rattle.base.specs.declared.refusals.Answer.{Answer}
+use Rattle.base.proofs.Settle.{settle-gives}
+use Rattle.base.proofs.Lists.{overwrite-more, overwrite-front}
 use Rattle.records.specs.Place.{putAt}
-use Rattle.records.specs.Wire.{number, numberAt, lowBytes, idsIn, idBytes}
+use Rattle.records.specs.Wire.{number, numberAt, lowBytes, idsIn, idBytes, readOutcome}
 use Rattle.records.proofs.Places.{put-first}
 
 -- a byte
@@ -79,3 +82,20 @@ unfolding putAt
 id-turn ids out i h =
     let e : length (idBytes (take i ids)) ≡ 8 * i = rw (length-id-bytes (take i ids), length-take-le i ids (omega arith)) in
     rw (id-bytes-more ids i h, ← e) (overwrite-more (idBytes (take i ids)) (lowBytes 8 (getD ids i 0)) out)
+
+-- what a read gives that has whole ids and room for them
+module _ (bytes out : List ℕ) (answer : Answer) (lent : List ℕ)
+    (reads : Permits (readOutcome bytes out) answer lent) (whole : length bytes % 8 ≡ 0) (room : length bytes / 8 ≤ length out) where
+  gives : Permits (record { answer = given 0 (length bytes / 8); lent = overwrite (idsIn (length bytes / 8) bytes) out }) answer lent
+  unfolding readOutcome
+  gives =
+      let fits : length (idsIn (length bytes / 8) bytes) ≤ length out = rw length-ids room in
+      rw (eq-eqb (length bytes % 8) 0 whole, settle-gives 0 0 (length bytes / 8) (idsIn (length bytes / 8) bytes) out refl fits) at reads
+
+  pub read-count : answer .count ≡ length bytes / 8
+  read-count = ap (λ (a : Answer). a .count) (gives .answered)
+
+  pub read-front : take (answer .count) lent ≡ idsIn (length bytes / 8) bytes
+  read-front =
+      let ids = idsIn (length bytes / 8) bytes in
+      rw (read-count, gives .left) (rw (length-ids (length bytes / 8) bytes) at (overwrite-front ids out))
