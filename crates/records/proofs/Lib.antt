@@ -1,0 +1,6 @@
+-- The laws that the proofs of records share.
+pub mod Places
+pub mod Bytes
+pub mod Decimals
+pub mod Frames
+pub mod Lines

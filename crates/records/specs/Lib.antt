@@ -1,0 +1,4 @@
+pub mod Place
+pub mod Wire
+pub mod Frame
+pub mod Text

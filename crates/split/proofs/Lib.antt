@@ -1,0 +1,2 @@
+-- The laws that the proofs of the program share.
+pub mod Few
