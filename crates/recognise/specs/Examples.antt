@@ -5,7 +5,7 @@ use mathlib.Core.List.{List, [], _∷_, _++_, map}
 use Rattle.base.specs.Kinds.{separator, nodesOf}
 use Rattle.base.specs.Checks.{elementFits, elementRefusal, holdsSeparator, inputRefusal, strays}
 use Rattle.base.specs.Gather.{digits}
-use Rattle.base.specs.Outcome.{Outcome, decide, given, overwrite, refused, settle}
+use Rattle.base.specs.Outcome.{Outcome, decide, given, overwrite, refused, settle, settleOne}
 use Rattle.base.specs.declared.refusals.Answer.{Answer}
 use Rattle.faces.specs.Edges.{along, count, edges, twice}
 use Rattle.faces.specs.Faces.{faces, full, runs}
@@ -102,5 +102,5 @@ abbrev judged : Example → Example
 judged e = record { kind = e .kind; ids = e .ids; outcome = fromPoly (e .kind) (e .ids) lent }
 
 pub examples-hold : map judged examples ≡ examples
-unfolding fromPoly recognised plainKind settle decide overwrite elementRefusal inputRefusal elementFits nodesOf strays holdsSeparator faces full runs edges along count twice fromFaces regular mixed otherLength tally nodesIn fourth wedge runsAt runsIn placeInSecond brick opposite touches sides side hasEdge top home above place seek
+unfolding fromPoly recognised plainKind settle settleOne decide overwrite elementRefusal inputRefusal elementFits nodesOf strays holdsSeparator faces full runs edges along count twice fromFaces regular mixed otherLength tally nodesIn fourth wedge runsAt runsIn placeInSecond brick opposite touches sides side hasEdge top home above place seek
 examples-hold = refl

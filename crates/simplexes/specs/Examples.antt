@@ -6,7 +6,7 @@ use lib.ListN.{replicate}
 use Rattle.base.specs.Kinds.{separator, nodesOf}
 use Rattle.base.specs.Checks.{elementRefusal, inputRefusal, elementFits, strays, holdsSeparator}
 use Rattle.base.specs.Gather.{pick, digits, corners}
-use Rattle.base.specs.Outcome.{Outcome, decide, settle, overwrite, given, refused}
+use Rattle.base.specs.Outcome.{Outcome, decide, settle, settleOne, overwrite, given, refused}
 use Rattle.base.specs.declared.refusals.Answer.{Answer}
 use Rattle.simplexes.specs.Split.{cut, simplexes, split, splitCount, splitKind, splitRefusal, toSimplexes}
 
@@ -73,5 +73,5 @@ answered e =
     record { kind = e .kind; ids = e .ids; lent = e .lent; outcome = toSimplexes (e .kind) (e .ids) (room (e .lent)) }
 
 pub examples-hold : map answered examples ≡ examples
-unfolding toSimplexes splitRefusal splitKind splitCount split simplexes cut settle decide overwrite pick elementRefusal inputRefusal elementFits strays holdsSeparator nodesOf
+unfolding toSimplexes splitRefusal splitKind splitCount split simplexes cut settle settleOne decide overwrite pick elementRefusal inputRefusal elementFits strays holdsSeparator nodesOf
 examples-hold = refl
