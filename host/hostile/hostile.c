@@ -89,6 +89,9 @@ static unsigned char given_bytes[MOST_BYTES];
 static unsigned char held_out[8 * MOST_OUT], first_out[8 * MOST_OUT];
 static uint64_t held_ends[TS_ELEMENT_LIMIT + 64];
 
+/* How many entries of the output the last call wrote. */
+static size_t last_size;
+
 static uint64_t calls[OPERATIONS], refusals[OPERATIONS][22];
 static int fault;
 static const call *current;
@@ -255,7 +258,8 @@ static ts_parts run(const call *c) {
     uint64_t expected = due(c);
     if (expected != 22 ? p.refusal != expected : (p.refusal >= 1 && p.refusal <= 4) || p.refusal == 21)
         fail("another refusal is due");
-    size_t written = out_width(c) * answer_size(c, p, (uint64_t *)ends);
+    last_size = answer_size(c, p, (uint64_t *)ends);
+    size_t written = out_width(c) * last_size;
     if (written > out_size)
         fail("an answer longer than the output");
     if (memcmp(out + written, held_out + written, out_size - written) != 0)
@@ -271,24 +275,35 @@ static ts_parts run(const call *c) {
     return p;
 }
 
-/* One call; where it answers, again with the output exactly as long as the answer, and one entry shorter. */
+/*
+ * One call; where it answers, again with the outputs exactly as long as the answer, and with one of them
+ * an entry shorter. Only the faces of a polyhedron take entries of `ends`.
+ */
 static void attack(call c) {
-    ts_parts p = run(&c);
-    if (p.refusal != 0 || c.n_out > 70000)
-        return;
     static unsigned char before[8 * 70000];
-    size_t size = p.refusal == 0 && (c.operation <= SUBENTITIES_OF) && c.kind == TS_PHED ? SIZE_MAX : answer_size(&c, p, NULL);
-    if (size == SIZE_MAX || size == 0)
+    ts_parts p = run(&c);
+    size_t size = last_size;
+    int marks = c.operation <= SUBENTITIES_OF && c.kind == TS_PHED;
+    if (p.refusal != 0 || out_width(&c) * size > sizeof before)
         return;
     memcpy(before, first_out, out_width(&c) * size);
     c.n_out = size;
+    c.n_ends = marks ? p.count : 0;
     c.front = (int)below(2);
     ts_parts again = run(&c);
     if (memcmp(&p, &again, sizeof p) != 0 || memcmp(before, first_out, out_width(&c) * size) != 0)
-        fail("another answer where the output is exactly as long");
+        fail("another answer where the outputs are exactly as long");
+    if (size == 0)
+        return;
     c.n_out = size - 1;
     if (run(&c).refusal != TS_REFUSAL_SHORT_OUTPUT)
         fail("7 is due where the output is one entry shorter");
+    if (marks) {
+        c.n_out = size;
+        c.n_ends = p.count - 1;
+        if (run(&c).refusal != TS_REFUSAL_SHORT_OUTPUT)
+            fail("7 is due where ends is one entry shorter");
+    }
 }
 
 static uint64_t random_id(int style) {
@@ -426,7 +441,7 @@ static void no_side_face(void) {
     attack(c);
 }
 
-/* Every refusal is met, save 16, which no input meets. */
+/* Every refusal is met in a long run, save 16, which no input meets. */
 static void all_met(void) {
     for (int r = 1; r <= 21; r++) {
         uint64_t met = 0;
@@ -460,7 +475,8 @@ int main(int argc, char **argv) {
     no_side_face();
     for (uint64_t i = 0; i < wanted; i++)
         attack(random_call((int)(i % OPERATIONS)));
-    all_met();
+    if (fault == 0 && wanted >= 1000000)
+        all_met();
 
     for (int operation = 0; operation < OPERATIONS; operation++) {
         printf("%-18s %8" PRIu64 " calls, answered %" PRIu64 ", refused by", names[operation], calls[operation], refusals[operation][0]);

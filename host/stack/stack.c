@@ -17,7 +17,10 @@
 
 #include "tallyspool.h"
 
-enum { SUBENTITIES, SUBENTITIES_OF, TO_POLY, FROM_POLY, TO_SIMPLEXES, REORIENT, SPLIT_BLOCK, READ_IDS, WRITE_IDS, SPLIT_RECORD, HUNGRY, ENTRIES };
+enum {
+    SUBENTITIES, SUBENTITIES_OF, TO_POLY, FROM_POLY, TO_SIMPLEXES, REORIENT,
+    SPLIT_BLOCK, READ_IDS, WRITE_IDS, SPLIT_RECORD, HUNGRY, ENTRIES
+};
 enum { LIMIT = 8192, STACK = 1 << 18, PAINT = 0xa5 };
 enum { MOST_IDS = TS_BLOCK_LIMIT, MOST_OUT = 3 * TS_BLOCK_LIMIT };
 
@@ -63,8 +66,14 @@ static size_t depth(void (*entry)(void)) {
 }
 
 static size_t deepest[ENTRIES];
-static void (*const entries[ENTRIES])(void) = {subentities, subentities_of, to_poly, from_poly, to_simplexes, reorient, split_block, read_ids, write_ids, split_record, hungry};
-static const char *const names[ENTRIES] = {"ts_subentities", "ts_subentities_of", "ts_to_poly", "ts_from_poly", "ts_to_simplexes", "ts_reorient", "ts_split_block", "ts_read_ids", "ts_write_ids", "ts_split_record", "hungry"};
+static void (*const entries[ENTRIES])(void) = {
+    subentities, subentities_of, to_poly, from_poly, to_simplexes, reorient,
+    split_block, read_ids, write_ids, split_record, hungry,
+};
+static const char *const names[ENTRIES] = {
+    "ts_subentities", "ts_subentities_of", "ts_to_poly", "ts_from_poly", "ts_to_simplexes", "ts_reorient",
+    "ts_split_block", "ts_read_ids", "ts_write_ids", "ts_split_record", "hungry",
+};
 static const size_t nodes_of[20] = {0, 1, 2, 3, 4, 3, 6, 7, 4, 8, 9, 4, 10, 6, 15, 8, 21, 0, 0, 0};
 
 static void measure(int operation) {
@@ -156,8 +165,10 @@ int main(int argc, char **argv) {
         for (size_t i = 0; i < n_ids; i++)
             ids[i] = (n_ids - i) * 3 % TS_ELEMENT_LIMIT;
         measure_element();
-        if (nodes_of[kind] != 0)
-            measure_answered(TO_SIMPLEXES), measure_answered(SPLIT_RECORD);
+        if (nodes_of[kind] != 0) {
+            measure_answered(TO_SIMPLEXES);
+            measure_answered(SPLIT_RECORD);
+        }
     }
     measure_faces();
     measure_poly(TS_TET4);
