@@ -5,7 +5,6 @@ use mathlib.Core.List.{List, [], _∷_, _++_, map}
 use lib.ListN.{replicate}
 use Rattle.base.specs.Kinds.{nodesOf}
 use Rattle.base.specs.Outcome.{refused, given}
-use Rattle.base.specs.declared.refusals.Answer.{Answer}
 use Rattle.records.specs.Wire.{number, lowBytes, idBytes}
 use Rattle.records.specs.Frame.{frameAt, frameRefusal, oddLength}
 use Rattle.records.specs.Text.{places, placesIn, spelled, decimal, spaced, line, simplexLines, recordText, endText}

@@ -1,5 +1,5 @@
 -- What holds of the program's state between two steps.
-use Prim.Native.Nat.{ℕ, _+_, _<_, _≤_}
+use Prim.Native.Nat.{_+_, _<_, _≤_}
 use Rattle.split.specs.declared.State.{State}
 
 -- the bytes in hand lie within the input, and those not written yet within the output
