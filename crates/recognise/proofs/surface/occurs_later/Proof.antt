@@ -1,4 +1,4 @@
--- `surface::is_paired` meets its contract: each return knows whether a separator stands at the place.
+-- `surface::occurs_later` meets its contract: each return knows whether a separator stands at the place.
 use Prim.Native.Nat.{_+_, _-_, _≤_}
 use mathlib.Core.Path.{_≡_, refl, sym, _∙_}
 use mathlib.Core.Bool.{not, false, true, _&&_, _||_}
@@ -6,8 +6,8 @@ use borrow.Author.Needs.{needs}
 use borrow.Author.Tests.{eq-eqb, ne-eqb}
 use native.Mathlib.Omega.{arith}
 use Rattle.recognise.proofs.Flat.{follower-id}
-use Rattle.recognise.proofs.surface.is_paired.Statement.{statement}
-use Rattle.recognise.proofs.surface.is_paired.Tie as tie
+use Rattle.recognise.proofs.surface.occurs_later.Statement.{statement}
+use Rattle.recognise.proofs.surface.occurs_later.Tie as tie
 
 returns : tie.Need-returns
 returns c = rw (← c .before .node .ensures, eq-eqb _ _ (c .if1 .taken))
@@ -16,8 +16,7 @@ occurrences-requires : tie.Need-occurrences-requires
 occurrences-requires c κs =
     let t = c .before in
     let a = t .before .before .before .args in
-    let n : t .before .node .result ≡ 18446744073709551615 → ⊥ = t .if1 .left in
-    (n, λ e. follower-id (a .ids .now) (a .i) (λ q. n (t .before .node .ensures ∙ q)) (sym (c .follower .ensures) ∙ e))
+    (t .if1 .left, λ e. follower-id (a .ids .now) (a .i) (λ q. t .if1 .left (t .before .node .ensures ∙ q)) (sym (c .follower .ensures) ∙ e))
 
 returns-2 : tie.Need-returns-2
 returns-2 c =
@@ -25,7 +24,7 @@ returns-2 c =
     let t = f .before in
     rw (← t .before .node .ensures, ne-eqb _ _ (t .if1 .left), c .occurrences .ensures, f .follower .ensures)
 
-pub is-paired-spec : {M : Type 1} → statement M
-is-paired-spec =
+pub occurs-later-spec : {M : Type 1} → statement M
+occurs-later-spec =
     tie.close
-    (tie.spec (λ c κs. search needs) returns (λ c κs. search needs) occurrences-requires returns-2)
+    (tie.spec (λ c κs. search needs) returns (λ c. search needs) (λ c κs. search needs) occurrences-requires returns-2)
