@@ -1,9 +1,9 @@
 -- Every edge occurs exactly twice where none occurs more than once behind itself and half of them do once: what comes
 -- behind each edge is enough to tell.
-use Prim.Native.Nat.{ℕ, suc, zero, _+_, _*_, _≤_, _<_}
+use Prim.Native.Nat.{ℕ, suc, _+_, _≤_}
 use mathlib.Core.Path.{_≡_, refl, sym, ap, _∙_}
 use mathlib.Core.List.{List, [], _∷_}
-use mathlib.Core.Bool.{Bool, true, false, cond, _&&_, _||_, and-comm, or-comm, false≢true}
+use mathlib.Core.Bool.{Bool, true, false, cond, _&&_, _||_, and-comm, or-comm}
 use native.Mathlib.Omega.{arith}
 use lib.Dec.{eqb, leb}
 use lib.ListN.{length}

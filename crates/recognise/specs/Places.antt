@@ -5,7 +5,7 @@ use mathlib.Core.Bool.{Bool, true, false, cond}
 use lib.ListN.{drop, getD}
 use lib.Dec.{eqb}
 use Rattle.base.specs.Kinds.{separator}
-use Rattle.faces.specs.Edges.{Edge, edge}
+use Rattle.faces.specs.Edges.{Edge, edge, hits, count}
 
 -- the first node of the face that holds place i
 unfoldable pub head : List ℕ → ℕ → ℕ
@@ -15,6 +15,14 @@ head l (suc i) = cond (eqb (getD l i separator) separator) (getD l (suc i) separ
 -- the node that follows the one at place i in its face: the next entry, or the face's first node where the face ends
 abbrev pub follower : List ℕ → ℕ → ℕ
 follower l i = cond (eqb (getD l (i + 1) separator) separator) (head l i) (getD l (i + 1) separator)
+
+-- the edge that starts at place i
+abbrev pub edgeAt : List ℕ → ℕ → Edge
+edgeAt l i = edge (getD l i separator) (follower l i)
+
+-- how often the edge that starts at place i is the edge d, once or not at all; none starts at a separator
+abbrev pub hitsAt : List ℕ → ℕ → Edge → ℕ
+hitsAt l i d = cond (eqb (getD l i separator) separator) 0 (hits d (edgeAt l i))
 
 -- an entry's edge goes in front, unless the entry is a separator (true)
 abbrev pub emit : Bool → Edge → List Edge → List Edge
@@ -31,3 +39,7 @@ flat f (x ∷ l) =
 -- the edges that start at place i or later
 abbrev pub edgesFrom : List ℕ → ℕ → List Edge
 edgesFrom l i = flat (head l i) (drop i l)
+
+-- how often the edge that starts at place i occurs behind it
+abbrev pub laterAt : List ℕ → ℕ → ℕ
+laterAt l i = cond (eqb (getD l i separator) separator) 0 (count (edgeAt l i) (edgesFrom l (i + 1)))

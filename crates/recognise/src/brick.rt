@@ -3,11 +3,11 @@ ghost use mathlib.Core.Path.{_≡_};
 ghost use mathlib.Core.Bool.{_&&_, _||_, cond, not};
 ghost use Prim.Native.Nat.{_<_, _≤_};
 ghost use lib.Dec.{eqb};
-ghost use Rattle.faces.specs.Edges.{edge, same};
 ghost use Rattle.recognise.specs.Brick.{above, brick, brickNodes, hasEdge, home, inBottom, lacksOne, Near, opposite, place, side, sideAt, sides, top, touches};
 ghost use Rattle.recognise.specs.Cells.{cell, Holds};
 ghost use Rattle.recognise.specs.Seek.{corner};
 use super::cells::Found;
+use super::surface::same;
 use base::lent::node;
 use base::refusals::Refusal;
 
@@ -134,12 +134,6 @@ fn has_edge(quads: &[u64], k: usize, a: u64, b: u64) -> bool
     let y = corner(quads, k, 2);
     let z = corner(quads, k, 3);
     same(a, b, w, x) | (same(a, b, x, y) | (same(a, b, y, z) | same(a, b, z, w)))
-}
-
-fn same(a: u64, b: u64, x: u64, y: u64) -> bool
-    ensures { λ r. ⌜ r ≡ same (edge a b) (edge x y) ⌝ }
-{
-    ((a == x) & (b == y)) | ((a == y) & (b == x))
 }
 
 // The brick on the bottom with these side faces.

@@ -3,13 +3,12 @@
 // occurs there more than once, each occurs twice exactly when half of the edges do.
 ghost use mathlib.Core.Path.{_≡_};
 ghost use mathlib.Core.Bool.{cond};
-ghost use Prim.Native.Nat.{_+_, _<_, _≤_};
-ghost use lib.Dec.{eqb};
-ghost use lib.ListN.{getD, length};
+ghost use Prim.Native.Nat.{_<_, _≤_};
+ghost use lib.ListN.{length};
 ghost use Rattle.base.specs.Kinds.{separator};
-ghost use Rattle.faces.specs.Edges.{closed, count, edge, hits};
+ghost use Rattle.faces.specs.Edges.{closed, count, edge, same};
 ghost use Rattle.faces.specs.Faces.{faces};
-ghost use Rattle.recognise.specs.Places.{edgesFrom, follower, head};
+ghost use Rattle.recognise.specs.Places.{edgesFrom, follower, head, hitsAt, laterAt};
 use base::kinds::Kind;
 use base::lent::node;
 
@@ -34,7 +33,7 @@ pub fn is_closed(ids: &[u64]) -> bool
 // How often the edge that starts at a place occurs behind it. None starts at a separator.
 fn occurs_later(ids: &[u64], i: usize) -> usize
     requires { ⌜ i < length (now ids) ⌝ }
-    ensures { λ r. ⌜ r ≡ cond (eqb (getD (now (ids .entry)) i separator) separator) 0 (count (edge (getD (now (ids .entry)) i separator) (follower (now (ids .entry)) i)) (edgesFrom (now (ids .entry)) (i + 1))) ⌝ }
+    ensures { λ r. ⌜ r ≡ laterAt (now (ids .entry)) i ⌝ }
 {
     let from = node(ids, i);
     if from == Kind::SEPARATOR {
@@ -76,16 +75,17 @@ fn next_end(ids: &[u64], at: usize, a: u64, b: u64) -> usize
 // 1 if the edge that starts at a place is the one between a and b, else 0.
 fn hit(ids: &[u64], i: usize, a: u64, b: u64) -> usize
     requires { ⌜ (i < length (now ids)) × (a ≡ separator → ⊥) × (b ≡ separator → ⊥) ⌝ }
-    ensures { λ r. ⌜ (r ≡ cond (eqb (getD (now (ids .entry)) i separator) separator) 0 (hits (edge a b) (edge (getD (now (ids .entry)) i separator) (follower (now (ids .entry)) i)))) × (r ≤ 1) ⌝ }
+    ensures { λ r. ⌜ (r ≡ hitsAt (now (ids .entry)) i (edge a b)) × (r ≤ 1) ⌝ }
 {
-    let from = ids[i];
-    if from == a {
-        return one_if(b == follower(ids, i));
-    }
-    if from == b {
-        return one_if(a == follower(ids, i));
-    }
-    0
+    one_if(same(a, b, node(ids, i), follower(ids, i)))
+}
+
+// Whether a to b and x to y are the same edge, in either direction. All four comparisons are made: a
+// branch among them would be hard to foresee.
+pub fn same(a: u64, b: u64, x: u64, y: u64) -> bool
+    ensures { λ r. ⌜ r ≡ same (edge a b) (edge x y) ⌝ }
+{
+    ((a == x) & (b == y)) | ((a == y) & (b == x))
 }
 
 pub fn one_if(test: bool) -> usize

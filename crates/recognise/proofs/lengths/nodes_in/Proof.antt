@@ -1,9 +1,7 @@
 -- `lengths::nodes_in` meets its contract: what is written is the front of the whole, and what is left to read its rest.
 use Prim.Native.Nat.{_+_, _-_, _≤_}
-use mathlib.Core.Path.{_≡_, refl, sym, _∙_}
-use mathlib.Core.Bool.{not, false, true, _&&_, _||_}
+use mathlib.Core.Path.{_≡_, refl, _∙_}
 use borrow.Author.Needs.{needs}
-use borrow.Author.Tests.{eq-eqb, ne-eqb}
 use native.Mathlib.Omega.{arith}
 use lib.ListN.{length, drop}
 use Rattle.faces.specs.Faces.{faces, part}
@@ -67,4 +65,5 @@ returns c =
 pub nodes-in-spec : {M : Type 1} → statement M
 nodes-in-spec =
     tie.close
-    (tie.spec Inv-loop μ-loop loop-holds (λ c κs. search needs) add-face-requires loop-less loop-again same-length returns)
+    (tie.spec Inv-loop μ-loop loop-holds (λ c κs. search needs) add-face-requires loop-less loop-again
+    same-length returns)

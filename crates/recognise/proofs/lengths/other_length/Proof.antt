@@ -1,9 +1,7 @@
 -- `lengths::other_length` meets its contract: the faces passed have a or b nodes, so what is left decides.
-use Prim.Native.Nat.{_+_, _-_, _≤_}
-use mathlib.Core.Path.{_≡_, refl, sym, _∙_}
-use mathlib.Core.Bool.{not, false, true, _&&_, _||_}
+use Prim.Native.Nat.{_-_, _≤_}
+use mathlib.Core.Path.{_≡_, sym, _∙_}
 use borrow.Author.Needs.{needs}
-use borrow.Author.Tests.{eq-eqb, ne-eqb}
 use native.Mathlib.Omega.{arith}
 use lib.ListN.{length, drop}
 use Rattle.faces.specs.Faces.{faces}
@@ -48,4 +46,5 @@ returns-2 c =
 pub other-length-spec : {M : Type 1} → statement M
 other-length-spec =
     tie.close
-    (tie.spec Inv-loop μ-loop (λ c. search needs) (λ c κs. search needs) sub-size loop-less loop-again returns returns-2)
+    (tie.spec Inv-loop μ-loop (λ c. search needs) (λ c κs. search needs) sub-size loop-less loop-again returns
+    returns-2)

@@ -1,15 +1,12 @@
 -- `phed::mixed` meets its contract: each return knows how the tests above it went, and the nodes of two triangles are six,
 -- those of three quads twelve.
-use Prim.Native.Nat.{_+_, _-_, _≤_}
-use mathlib.Core.Path.{_≡_, refl, sym, ap, _∙_}
-use mathlib.Core.Bool.{not, false, true, _&&_, _||_}
+use mathlib.Core.Path.{_≡_, _∙_}
 use borrow.Author.Needs.{needs}
 use borrow.Author.Tests.{eq-eqb, ne-eqb}
 use native.Mathlib.Omega.{arith}
 use lib.ListN.{length}
 use Rattle.faces.specs.Faces.{faces}
 use Rattle.recognise.specs.Recognise.{mixed, nodesIn}
-use Rattle.recognise.specs.Wedge.{wedge}
 use Rattle.recognise.proofs.Found.{holds-as}
 use Rattle.recognise.proofs.Nodes.{length-nodes, overwrite-whole}
 use Rattle.recognise.proofs.phed.mixed.Statement.{statement}
@@ -53,4 +50,6 @@ returns-3 c =
 pub mixed-spec : {M : Type 1} → statement M
 mixed-spec =
     tie.close
-    (tie.spec (λ c κs. search needs) (λ c κs. search needs) returns (λ c κs. search needs) (λ c κs. search needs) returns-2 (λ c. search needs) nodes-in-requires (λ c. search needs) nodes-in-requires-2 (λ c. search needs) (λ c. search needs) (λ c κs. search needs) returns-3)
+    (tie.spec (λ c κs. search needs) (λ c κs. search needs) returns (λ c κs. search needs)
+    (λ c κs. search needs) returns-2 (λ c. search needs) nodes-in-requires (λ c. search needs)
+    nodes-in-requires-2 (λ c. search needs) (λ c. search needs) (λ c κs. search needs) returns-3)

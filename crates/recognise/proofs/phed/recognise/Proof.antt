@@ -1,10 +1,6 @@
 -- `phed::recognise` meets its contract: each return knows how the tests above it went.
-use Prim.Native.Nat.{_+_, _-_, _≤_}
-use mathlib.Core.Path.{_≡_, refl, sym, ap, _∙_}
-use mathlib.Core.Bool.{not, false, true, _&&_, _||_}
 use borrow.Author.Needs.{needs}
 use borrow.Author.Tests.{eq-eqb, ne-eqb}
-use native.Mathlib.Omega.{arith}
 use Rattle.recognise.specs.Recognise.{fromFaces}
 use Rattle.recognise.proofs.Found.{holds-as}
 use Rattle.recognise.proofs.phed.recognise.Statement.{statement}
@@ -54,4 +50,6 @@ returns-4 c =
 pub recognise-spec : {M : Type 1} → statement M
 recognise-spec =
     tie.close
-    (tie.spec (λ c κs. search needs) (λ c κs. search needs) returns (λ c κs. search needs) (λ c κs. search needs) returns-2 (λ c κs. search needs) (λ c κs. search needs) returns-3 (λ c κs. search needs) returns-4)
+    (tie.spec (λ c κs. search needs) (λ c κs. search needs) returns (λ c κs. search needs)
+    (λ c κs. search needs) returns-2 (λ c κs. search needs) (λ c κs. search needs) returns-3
+    (λ c κs. search needs) returns-4)

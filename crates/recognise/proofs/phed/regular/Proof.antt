@@ -1,12 +1,9 @@
 -- `phed::regular` meets its contract: each return knows how the tests above it went, and the nodes of four triangles
 -- are twelve, those of six quads twenty-four.
-use Prim.Native.Nat.{_+_, _-_, _≤_}
-use mathlib.Core.Path.{_≡_, refl, sym, ap, _∙_}
-use mathlib.Core.Bool.{not, false, true, _&&_, _||_}
+use mathlib.Core.Path.{_≡_, ap, _∙_}
 use borrow.Author.Needs.{needs}
-use borrow.Author.Tests.{eq-eqb, ne-eqb}
+use borrow.Author.Tests.{eq-eqb, ne-eqb, not-true, not-false}
 use native.Mathlib.Omega.{arith}
-use borrow.Author.Tests.{not-true, not-false}
 use lib.ListN.{length}
 use Rattle.faces.specs.Faces.{faces}
 use Rattle.recognise.specs.Recognise.{regular, nodesIn}
@@ -66,4 +63,7 @@ returns-4 c =
 pub regular-spec : {M : Type 1} → statement M
 regular-spec =
     tie.close
-    (tie.spec (λ c κs. search needs) (λ c κs. search needs) returns (λ c κs. search needs) (λ c. search needs) nodes-in-requires (λ c. search needs) (λ c κs. search needs) returns-2 (λ c κs. search needs) (λ c. search needs) nodes-in-requires-2 (λ c. search needs) (λ c κs. search needs) returns-3 (λ c κs. search needs) returns-4)
+    (tie.spec (λ c κs. search needs) (λ c κs. search needs) returns (λ c κs. search needs) (λ c. search needs)
+    nodes-in-requires (λ c. search needs) (λ c κs. search needs) returns-2 (λ c κs. search needs)
+    (λ c. search needs) nodes-in-requires-2 (λ c. search needs) (λ c κs. search needs) returns-3
+    (λ c κs. search needs) returns-4)

@@ -1,9 +1,7 @@
 -- `surface::occurrences` meets its contract: what is counted and what is left to count add up to the whole.
 use Prim.Native.Nat.{_+_, _-_, _≤_}
-use mathlib.Core.Path.{_≡_, refl, sym, _∙_}
-use mathlib.Core.Bool.{not, false, true, _&&_, _||_}
+use mathlib.Core.Path.{_≡_}
 use borrow.Author.Needs.{needs}
-use borrow.Author.Tests.{eq-eqb, ne-eqb}
 use native.Mathlib.Omega.{arith}
 use lib.ListN.{length}
 use Rattle.faces.specs.Edges.{edge, count}
@@ -38,4 +36,5 @@ returns c =
 pub occurrences-spec : {M : Type 1} → statement M
 occurrences-spec =
     tie.close
-    (tie.spec Inv-loop μ-loop (λ c κs. search needs) loop-holds (λ c κs. search needs) (λ c. search needs) (λ c. search needs) (λ c κs. search needs) (λ c. search needs) loop-again returns)
+    (tie.spec Inv-loop μ-loop (λ c κs. search needs) loop-holds (λ c κs. search needs) (λ c. search needs)
+    (λ c. search needs) (λ c κs. search needs) (λ c. search needs) loop-again returns)

@@ -1,10 +1,7 @@
 -- `surface::occurs_later` meets its contract: each return knows whether a separator stands at the place.
-use Prim.Native.Nat.{_+_, _-_, _≤_}
-use mathlib.Core.Path.{_≡_, refl, sym, _∙_}
-use mathlib.Core.Bool.{not, false, true, _&&_, _||_}
+use mathlib.Core.Path.{sym, _∙_}
 use borrow.Author.Needs.{needs}
 use borrow.Author.Tests.{eq-eqb, ne-eqb}
-use native.Mathlib.Omega.{arith}
 use Rattle.recognise.proofs.Flat.{follower-id}
 use Rattle.recognise.proofs.surface.occurs_later.Statement.{statement}
 use Rattle.recognise.proofs.surface.occurs_later.Tie as tie
@@ -27,4 +24,5 @@ returns-2 c =
 pub occurs-later-spec : {M : Type 1} → statement M
 occurs-later-spec =
     tie.close
-    (tie.spec (λ c κs. search needs) returns (λ c. search needs) (λ c κs. search needs) occurrences-requires returns-2)
+    (tie.spec (λ c κs. search needs) returns (λ c. search needs) (λ c κs. search needs) occurrences-requires
+    returns-2)
