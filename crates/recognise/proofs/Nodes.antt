@@ -117,7 +117,11 @@ module _ (was all out : List ℕ) (filled : ℕ) where
 
   module _ (more rest : List ℕ) (room : length all ≤ length was) (f : Filled was all out filled (more ++ rest)) where
     lengths : filled + (length more + length rest) ≡ length all
-    lengths = sym (rw (length-append, length-append, length-take-le filled out (f .within)) at (ap length (sym (f .whole))))
+    lengths = sym (rw (
+      length-append,
+      length-append,
+      length-take-le filled out (f .within),
+    ) at (ap length (sym (f .whole))))
 
     pub filled-room : filled + length more ≤ length out
     filled-room = omega (arith, lengths)

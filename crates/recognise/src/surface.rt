@@ -12,6 +12,7 @@ ghost use Rattle.recognise.specs.Places.{edgesFrom, follower, head, hits
 use base::kinds::Kind;
 use base::lent::node;
 
+// Whether every edge occurs exactly twice.
 pub fn is_closed(ids: &[u64]) -> bool
     ensures { λ r. ⌜ r ≡ closed (faces (now (ids .entry))) ⌝ }
 {

@@ -13,7 +13,11 @@ returns : tie.Need-returns
 unfolding fromPoly
 returns c =
     let e = c .before .before in
-    rw (← e .element-refusal .ensures, or-else-first _ _ (c .before .if1 .taken), settle-refuses _ _ _ _ _ (c .before .if1 .taken))
+    rw (
+      ← e .element-refusal .ensures,
+      or-else-first _ _ (c .before .if1 .taken),
+      settle-refuses _ _ _ _ _ (c .before .if1 .taken),
+    )
     (record { answered = c .refused .ensures; left = refl })
 
 write-found-requires : tie.Need-write-found-requires

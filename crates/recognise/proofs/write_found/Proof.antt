@@ -12,7 +12,8 @@ use Rattle.recognise.proofs.write_found.Tie as tie
 returns : tie.Need-returns
 returns c = rw (settle-refuses _ _ _ _ _ (c .before .if1 .taken)) (record { answered = c .refused .ensures; left = refl })
 
-written : (c : tie.Else1) → length (take (c .before .before .before .args .found .count) (c .before .before .before .args .found .ids)) ≡ c .before .before .before .args .found .count
+written : (c : tie.Else1)
+    → length (take (c .before .before .before .args .found .count) (c .before .before .before .args .found .ids)) ≡ c .before .before .before .args .found .count
 written c = simp length-take (omega arith)
 
 returns-2 : tie.Need-returns-2

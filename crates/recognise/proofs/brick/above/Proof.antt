@@ -8,7 +8,13 @@ returns : tie.Need-returns
 unfolding above
 returns c =
     let t = c .before .before in
-    rw (c .corner2 .ensures, ← t .before .before .place .ensures .0, ← t .before .corner .ensures, ← t .in-bottom .ensures, c .before .if1 .taken)
+    rw (
+      c .corner2 .ensures,
+      ← t .before .before .place .ensures .0,
+      ← t .before .corner .ensures,
+      ← t .in-bottom .ensures,
+      c .before .if1 .taken,
+    )
 
 returns-2 : tie.Need-returns-2
 unfolding above

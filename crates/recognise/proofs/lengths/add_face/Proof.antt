@@ -14,7 +14,8 @@ use Rattle.recognise.proofs.Nodes.{length-part, of-length, not-of-lengt
 use Rattle.recognise.proofs.lengths.add_face.Statement.{statement}
 use Rattle.recognise.proofs.lengths.add_face.Tie as tie
 
-room : (c : tie.Then1) → c .before .before .before .args .filled + c .before .before .before .args .n ≤ length (c .before .before .before .args .out .now)
+room : (c : tie.Then1)
+    → c .before .before .before .args .filled + c .before .before .before .args .n ≤ length (c .before .before .before .args .out .now)
 room c = c .before .before .before .pre .2 (c .if1 .taken)
 
 mul-copy-2 : tie.Need-mul-copy-2
@@ -36,9 +37,14 @@ returns : tie.Need-returns
 returns c =
     let t = c .before .before .before .before .before in
     let s = t .before .before .before in
-    let e : length (part (s .args .ids .now) (s .args .start) (s .args .end)) ≡ s .args .n = length-part _ _ _ (s .pre .0) (s .pre .1) ∙ t .if1 .taken in
+    let e : length (part (s .args .ids .now) (s .args .start) (s .args .end)) ≡ s .args .n =
+    length-part _ _ _ (s .pre .0) (s .pre .1) ∙ t .if1 .taken in
     let h : take (s .args .filled) (s .args .out .now) ++ c .before .before .copy .last .1 .0
-    ≡ added (s .args .out .now) (ofLength (s .args .n) (part (s .args .ids .now) (s .args .start) (s .args .end))) (s .args .filled) = rw (of-length _ _ e, c .before .before .copy .ensures, rest-whole) in
+    ≡ added (s .args .out .now) (ofLength (s .args .n) (part (s .args .ids .now) (s .args .start) (s .args .end))) (s .args .filled) = rw (
+      of-length _ _ e,
+      c .before .before .copy .ensures,
+      rest-whole,
+    ) in
     (rw (of-length _ _ e, e), part-home (s .args .out .now) _ (s .args .filled) ∙ h)
 
 returns-2 : tie.Need-returns-2

@@ -18,7 +18,8 @@ Inv-loop ids n out₀ filled₀ at₀ out filled at =
 abbrev μ-loop : tie.MeasureT-loop
 μ-loop ids n out₀ filled₀ at₀ out filled at = length ids - at
 
-walk : (c : tie.After-next-face Inv-loop μ-loop) → Next (c .before .before .before .before .before .args .ids .now) (c .before .before .loop .at) (c .next-face .result)
+walk : (c : tie.After-next-face Inv-loop μ-loop)
+    → Next (c .before .before .before .before .before .args .ids .now) (c .before .before .loop .at) (c .next-face .result)
 walk c = next _ _ (c .before .loop-test .taken) _ (c .next-face .ensures)
 
 loop-holds : tie.Need-loop-holds Inv-loop μ-loop
@@ -37,7 +38,8 @@ add-face-requires c κs =
           let p = length-part (s .args .ids .now) (f .next-face .result .start) (f .next-face .result .end) (w .run) (w .within) ∙ e in
           let m = ofLength (s .args .n) (part (s .args .ids .now) (f .next-face .result .start) (f .next-face .result .end)) in
           let q : length m ≡ s .args .n = rw (of-length _ _ p) p in
-          let g : k .loop .filled + length m ≤ length (k .loop .out) = filled-room _ _ _ _ m (nodesIn (s .args .n) (faces (drop (f .next-face .result .end) (s .args .ids .now)))) (s .pre) t in
+          let g : k .loop .filled + length m ≤ length (k .loop .out) =
+          filled-room _ _ _ _ m (nodesIn (s .args .n) (faces (drop (f .next-face .result .end) (s .args .ids .now)))) (s .pre) t in
           omega arith,
     )
 
@@ -51,8 +53,13 @@ loop-again c =
     let s = k .before .before .before in
     let w = walk f in
     let t = rw (nodes-step (s .args .ids .now) (k .loop .at) (f .next-face .result) w (s .args .n)) at (k .loop .inv .1) in
-    let e = c .before .before .add-face .ensures in
-    (w .within, rw (e .1, e .0) (filled-more _ _ _ _ (ofLength (s .args .n) (part (s .args .ids .now) (f .next-face .result .start) (f .next-face .result .end))) _ (s .pre) t))
+    let e = c .before .before .add-face .ensures in (
+      w .within,
+      rw (
+        e .1,
+        e .0,
+      ) (filled-more _ _ _ _ (ofLength (s .args .n) (part (s .args .ids .now) (f .next-face .result .start) (f .next-face .result .end))) _ (s .pre) t),
+    )
 
 same-length : tie.Need-same-length Inv-loop μ-loop
 same-length c = c .before .loop .inv .1 .long

@@ -17,7 +17,8 @@ Inv-loop ids a b at₀ at = (at ≤ length ids) × (otherLength a b (faces (drop
 abbrev μ-loop : tie.MeasureT-loop
 μ-loop ids a b at₀ at = length ids - at
 
-walk : (c : tie.After-next-face Inv-loop μ-loop) → Next (c .before .before .before .before .args .ids .now) (c .before .before .loop .at) (c .next-face .result)
+walk : (c : tie.After-next-face Inv-loop μ-loop)
+    → Next (c .before .before .before .before .args .ids .now) (c .before .before .loop .at) (c .next-face .result)
 walk c = next _ _ (c .before .loop-test .taken) _ (c .next-face .ensures)
 
 sub-size : tie.Need-sub-size Inv-loop μ-loop
@@ -29,14 +30,18 @@ loop-less c = omega (arith, walk (c .before))
 loop-again : tie.Need-loop-again Inv-loop μ-loop
 loop-again c =
     let f = c .before in
-    let k = f .before .before in
-    (omega (arith, walk f), sym (rw (c .if1 .taken) at (other-step _ _ _ (walk f) (k .before .before .args .a) (k .before .before .args .b))) ∙ k .loop .inv .1)
+    let k = f .before .before in (
+      omega (arith, walk f),
+      sym (rw (c .if1 .taken) at (other-step _ _ _ (walk f) (k .before .before .args .a)
+          (k .before .before .args .b))) ∙ k .loop .inv .1,
+    )
 
 returns : tie.Need-returns Inv-loop μ-loop
 returns c =
     let f = c .before in
     let k = f .before .before in
-    sym (rw (c .if1 .left) at (other-step _ _ _ (walk f) (k .before .before .args .a) (k .before .before .args .b))) ∙ k .loop .inv .1
+    sym (rw (c .if1 .left) at (other-step _ _ _ (walk f) (k .before .before .args .a)
+    (k .before .before .args .b))) ∙ k .loop .inv .1
 
 returns-2 : tie.Need-returns-2 Inv-loop μ-loop
 returns-2 c =

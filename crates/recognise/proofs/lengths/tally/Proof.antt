@@ -12,12 +12,14 @@ use Rattle.recognise.proofs.lengths.tally.Statement.{statement}
 use Rattle.recognise.proofs.lengths.tally.Tie as tie
 
 abbrev Inv-loop : tie.InvT-loop
-Inv-loop ids n found₀ at₀ found at = (at ≤ length ids) × (found ≤ at) × (found + tally n (faces (drop at ids)) ≡ tally n (faces ids))
+Inv-loop ids n found₀ at₀ found at = (at ≤ length ids) × (found ≤ at)
+    × (found + tally n (faces (drop at ids)) ≡ tally n (faces ids))
 
 abbrev μ-loop : tie.MeasureT-loop
 μ-loop ids n found₀ at₀ found at = length ids - at
 
-walk : (c : tie.After-next-face Inv-loop μ-loop) → Next (c .before .before .before .before .args .ids .now) (c .before .before .loop .at) (c .next-face .result)
+walk : (c : tie.After-next-face Inv-loop μ-loop)
+    → Next (c .before .before .before .before .args .ids .now) (c .before .before .loop .at) (c .next-face .result)
 walk c = next _ _ (c .before .loop-test .taken) _ (c .next-face .ensures)
 
 sub-one-if : tie.Need-sub-one-if Inv-loop μ-loop
@@ -27,7 +29,9 @@ loop-less : tie.Need-loop-less Inv-loop μ-loop
 loop-less c = omega (arith, walk (c .before))
 
 loop-again : tie.Need-loop-again Inv-loop μ-loop
-loop-again c = omega (arith, walk (c .before), tally-step _ _ _ (walk (c .before)) (c .before .before .before .before .before .args .n) (search needs))
+loop-again c =
+    omega
+    (arith, walk (c .before), tally-step _ _ _ (walk (c .before)) (c .before .before .before .before .before .args .n) (search needs))
 
 returns : tie.Need-returns Inv-loop μ-loop
 returns c =

@@ -21,7 +21,12 @@ unfolding mixed
 returns-2 c =
     let t = c .before .before in
     holds-as (c .refused2 .ensures)
-    (rw (← t .before .before .tally .ensures, eq-eqb _ _ (t .before .if1 .left), ← t .tally2 .ensures, ne-eqb _ _ (c .before .if2 .taken)))
+    (rw (
+      ← t .before .before .tally .ensures,
+      eq-eqb _ _ (t .before .if1 .left),
+      ← t .tally2 .ensures,
+      ne-eqb _ _ (c .before .if2 .taken),
+    ))
 
 tris : (c : tie.Else2) → length (nodesIn 3 (faces (c .before .before .before .before .before .args .ids .now))) ≡ 6
 tris c = length-nodes 3 _ ∙ rw (← c .before .before .before .tally .ensures, c .before .before .if1 .left)
@@ -45,7 +50,14 @@ returns-3 c =
     let a = t .nodes-in .ensures ∙ overwrite-whole _ _ (tris e) in
     let b = q .nodes-in2 .ensures ∙ overwrite-whole _ _ (quads e) in
     holds-as (c .wedge .ensures)
-    (rw (a, b, ← k .before .before .tally .ensures, eq-eqb _ _ (k .before .if1 .left), ← k .tally2 .ensures, eq-eqb _ _ (e .if2 .left)))
+    (rw (
+      a,
+      b,
+      ← k .before .before .tally .ensures,
+      eq-eqb _ _ (k .before .if1 .left),
+      ← k .tally2 .ensures,
+      eq-eqb _ _ (e .if2 .left),
+    ))
 
 pub mixed-spec : {M : Type 1} → statement M
 mixed-spec =

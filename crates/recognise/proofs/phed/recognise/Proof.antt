@@ -8,14 +8,22 @@ use Rattle.recognise.proofs.phed.recognise.Tie as tie
 
 returns : tie.Need-returns
 unfolding fromFaces
-returns c = holds-as (c .refused .ensures) (rw (← c .before .before .other-length .ensures, eq-eqb _ _ (c .before .if1 .taken)))
+returns c = holds-as (c .refused .ensures) (rw (
+  ← c .before .before .other-length .ensures,
+  eq-eqb _ _ (c .before .if1 .taken),
+))
 
 returns-2 : tie.Need-returns-2
 unfolding fromFaces
 returns-2 c =
     let b = c .before .before in
     holds-as (c .regular .ensures)
-    (rw (← b .before .before .other-length .ensures, ne-eqb _ _ (b .before .if1 .left), ← b .other-length2 .ensures, eq-eqb _ _ (c .before .if2 .taken)))
+    (rw (
+      ← b .before .before .other-length .ensures,
+      ne-eqb _ _ (b .before .if1 .left),
+      ← b .other-length2 .ensures,
+      eq-eqb _ _ (c .before .if2 .taken),
+    ))
 
 returns-3 : tie.Need-returns-3
 unfolding fromFaces

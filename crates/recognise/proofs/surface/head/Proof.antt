@@ -23,7 +23,8 @@ loop-again : tie.Need-loop-again Inv-loop μ-loop
 loop-again c =
     let k = c .before .before .before in
     let a = k .before .before .args in
-    let t : eqb (getD (a .ids .now) (k .loop .k - 1) separator) separator ≡ false = rw (← c .before .node .ensures) (ne-eqb _ _ (c .if1 .left)) in
+    let t : eqb (getD (a .ids .now) (k .loop .k - 1) separator) separator ≡ false =
+    rw (← c .before .node .ensures) (ne-eqb _ _ (c .if1 .left)) in
     sym (head-back (a .ids .now) (k .loop .k) false (search needs) t) ∙ k .loop .inv
 
 returns : tie.Need-returns Inv-loop μ-loop
@@ -31,7 +32,8 @@ returns c =
     let n = c .before .before in
     let k = n .before .before in
     let a = k .before .before .args in
-    let t : eqb (getD (a .ids .now) (k .loop .k - 1) separator) separator ≡ true = rw (← n .node .ensures) (eq-eqb _ _ (c .before .if1 .taken)) in
+    let t : eqb (getD (a .ids .now) (k .loop .k - 1) separator) separator ≡ true =
+    rw (← n .node .ensures) (eq-eqb _ _ (c .before .if1 .taken)) in
     c .node2 .ensures ∙ sym (head-back (a .ids .now) (k .loop .k) true (search needs) t) ∙ k .loop .inv
 
 returns-2 : tie.Need-returns-2 Inv-loop μ-loop

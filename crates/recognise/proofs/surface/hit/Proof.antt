@@ -7,7 +7,12 @@ use Rattle.recognise.proofs.surface.hit.Tie as tie
 returns : tie.Need-returns
 returns c =
     let s = c .before .before .before .before .before in (
-      rw (c .one-if .ensures .0, c .before .same .ensures, c .before .before .follower .ensures, c .before .before .before .node .ensures)
+      rw (
+        c .one-if .ensures .0,
+        c .before .same .ensures,
+        c .before .before .follower .ensures,
+        c .before .before .before .node .ensures,
+      )
           (hit-any (s .args .a) (s .args .b) _ _ (s .pre .1) (s .pre .2)),
       search needs,
     )

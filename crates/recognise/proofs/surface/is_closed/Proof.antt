@@ -31,7 +31,9 @@ loop-again c =
       search needs,
       omega arith,
       omega arith,
-      sym (paired-on l (k .loop .i) (search needs) (k .loop .pairs) (k .loop .edges) (y .occurs-later .result) (y .occurs-later .ensures) (c .one-if .result) (rw (← c .before .node .ensures) (c .one-if .ensures .0)) (search needs)) ∙ k .loop .inv .3,
+      sym (paired-on l (k .loop .i) (search needs) (k .loop .pairs) (k .loop .edges) (y .occurs-later .result) (y .occurs-later .ensures)
+          (c .one-if .result) (rw (← c .before .node .ensures) (c .one-if .ensures .0)) (search needs))
+          ∙ k .loop .inv .3,
     )
 
 returns : tie.Need-returns Inv-loop μ-loop
@@ -39,7 +41,9 @@ returns c =
     let y = c .before in
     let k = y .before .before in
     let l = k .before .before .args .ids .now in
-    sym (paired-off l (k .loop .i) (search needs) (k .loop .pairs) (k .loop .edges) (y .occurs-later .result) (y .occurs-later .ensures) (c .if1 .taken)) ∙ k .loop .inv .3
+    sym (paired-off l (k .loop .i) (search needs) (k .loop .pairs) (k .loop .edges) (y .occurs-later .result) (y .occurs-later .ensures)
+    (c .if1 .taken))
+    ∙ k .loop .inv .3
 
 returns-2 : tie.Need-returns-2 Inv-loop μ-loop
 unfolding paired

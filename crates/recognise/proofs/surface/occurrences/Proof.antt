@@ -30,7 +30,8 @@ returns : tie.Need-returns Inv-loop μ-loop
 unfolding count
 returns c =
     let a = c .before .before .before .before .args in
-    let z : count (edge (a .a) (a .b)) (edgesFrom (a .ids .now) (c .before .loop .i)) ≡ 0 = rw (none-from _ _ (c .loop-test .left)) in
+    let z : count (edge (a .a) (a .b)) (edgesFrom (a .ids .now) (c .before .loop .i)) ≡ 0 =
+    rw (none-from _ _ (c .loop-test .left)) in
     omega arith
 
 pub occurrences-spec : {M : Type 1} → statement M

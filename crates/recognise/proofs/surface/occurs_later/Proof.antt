@@ -12,8 +12,11 @@ returns c = rw (← c .before .node .ensures, eq-eqb _ _ (c .if1 .taken))
 occurrences-requires : tie.Need-occurrences-requires
 occurrences-requires c κs =
     let t = c .before in
-    let a = t .before .before .before .args in
-    (t .if1 .left, λ e. follower-id (a .ids .now) (a .i) (λ q. t .if1 .left (t .before .node .ensures ∙ q)) (sym (c .follower .ensures) ∙ e))
+    let a = t .before .before .before .args in (
+      t .if1 .left,
+      λ e.
+          follower-id (a .ids .now) (a .i) (λ q. t .if1 .left (t .before .node .ensures ∙ q)) (sym (c .follower .ensures) ∙ e),
+    )
 
 returns-2 : tie.Need-returns-2
 returns-2 c =

@@ -22,14 +22,16 @@ loop-holds c = rw (c .before .before .node .ensures, c .before .node2 .ensures, 
 loop-again : tie.Need-loop-again Inv-loop μ-loop
 loop-again c =
     let k = c .before .before .before in
-    sym (fourth-step _ _ _ (k .loop .m) _ true (c .before .before .loop-test .taken) (rw (← c .before .node4 .ensures) (c .if1 .taken))) ∙ k .loop .inv
+    sym (fourth-step _ _ _ (k .loop .m) _ true (c .before .before .loop-test .taken)
+    (rw (← c .before .node4 .ensures) (c .if1 .taken))) ∙ k .loop .inv
 
 returns : tie.Need-returns Inv-loop μ-loop
 returns c =
     let x = c .before .before in
     let k = x .before .before in
     holds-as (c .tet4 .ensures) (rw (x .node4 .ensures)
-    (sym (fourth-step _ _ _ (k .loop .m) _ false (x .before .loop-test .taken) (rw (← x .node4 .ensures) (c .before .if1 .left))) ∙ k .loop .inv))
+    (sym (fourth-step _ _ _ (k .loop .m) _ false (x .before .loop-test .taken)
+    (rw (← x .node4 .ensures) (c .before .if1 .left))) ∙ k .loop .inv))
 
 returns-2 : tie.Need-returns-2 Inv-loop μ-loop
 returns-2 c =

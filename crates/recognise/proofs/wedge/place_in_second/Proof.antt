@@ -25,14 +25,16 @@ loop-again : tie.Need-loop-again Inv-loop μ-loop
 loop-again c =
     let k = c .before .before .before in
     let a = k .before .before .args in
-    let t : eqb (nth (a .tris .now) (3 + k .loop .m)) (a .v) ≡ false = rw (← c .before .node .ensures) (ne-eqb _ _ (c .if1 .left)) in
+    let t : eqb (nth (a .tris .now) (3 + k .loop .m)) (a .v) ≡ false =
+    rw (← c .before .node .ensures) (ne-eqb _ _ (c .if1 .left)) in
     (search needs, seek-on _ _ 3 _ (k .loop .inv .1) (search needs) t)
 
 returns : tie.Need-returns Inv-loop μ-loop
 returns c =
     let k = c .before .before .before in
     let a = k .before .before .args in
-    let t : eqb (nth (a .tris .now) (3 + k .loop .m)) (a .v) ≡ true = rw (← c .before .node .ensures) (eq-eqb _ _ (c .if1 .taken)) in
+    let t : eqb (nth (a .tris .now) (3 + k .loop .m)) (a .v) ≡ true =
+    rw (← c .before .node .ensures) (eq-eqb _ _ (c .if1 .taken)) in
     (seek-here _ _ 3 _ (k .loop .inv .1) (search needs) t, search needs)
 
 returns-2 : tie.Need-returns-2 Inv-loop μ-loop

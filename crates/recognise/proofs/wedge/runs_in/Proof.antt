@@ -25,14 +25,16 @@ loop-again : tie.Need-loop-again Inv-loop μ-loop
 loop-again c =
     let k = c .before .before .before in
     let a = k .before .before .args in
-    let t : not (eqb (runsAt (a .quads .now) (k .loop .k) (a .v) (a .w)) 4) ≡ false = rw (← c .before .runs-at .ensures .0, eq-eqb _ _ (c .if1 .taken)) in
+    let t : not (eqb (runsAt (a .quads .now) (k .loop .k) (a .v) (a .w)) 4) ≡ false =
+    rw (← c .before .runs-at .ensures .0, eq-eqb _ _ (c .if1 .taken)) in
     (search needs, seek-on _ _ 3 _ (k .loop .inv .1) (search needs) t)
 
 returns : tie.Need-returns Inv-loop μ-loop
 returns c =
     let k = c .before .before .before in
     let a = k .before .before .args in
-    let t : not (eqb (runsAt (a .quads .now) (k .loop .k) (a .v) (a .w)) 4) ≡ true = rw (← c .before .runs-at .ensures .0, ne-eqb _ _ (c .if1 .left)) in
+    let t : not (eqb (runsAt (a .quads .now) (k .loop .k) (a .v) (a .w)) 4) ≡ true =
+    rw (← c .before .runs-at .ensures .0, ne-eqb _ _ (c .if1 .left)) in
     (seek-here _ _ 3 _ (k .loop .inv .1) (search needs) t, search needs)
 
 returns-2 : tie.Need-returns-2 Inv-loop μ-loop

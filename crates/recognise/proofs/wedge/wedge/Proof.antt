@@ -11,7 +11,12 @@ unfolding wedge
 returns c =
     let r = c .before .before in
     holds-as (c .refused .ensures)
-    (rw (← r .before .before .node .ensures, ← r .before .node2 .ensures, ← r .runs-in .ensures .0, eq-eqb _ _ (c .before .if1 .taken)))
+    (rw (
+      ← r .before .before .node .ensures,
+      ← r .before .node2 .ensures,
+      ← r .runs-in .ensures .0,
+      eq-eqb _ _ (c .before .if1 .taken),
+    ))
 
 returns-2 : tie.Need-returns-2
 unfolding wedge
