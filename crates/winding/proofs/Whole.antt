@@ -2,13 +2,13 @@
 use mathlib.Core.Path.{_≡_, refl, sym, ap, ap₂, _∙_, subst}
 use mathlib.Core.Logic.{_⊎_, inl, inr}
 use Prim.Native.Nat.{ℕ, zero, suc, _+_, _-_, _*_, _^_, _≤_, _<_}
-use native.Mathlib.Nat.{le-refl, le-trans, le-of-eq, le-of-lt, lt-of-lt-of-le, eq-or-lt-of-le, zero-lt-suc, zero-mul, mul-zero, add-zero, mul-one, mul-comm, mul-assoc, mul-right-comm, mul-mul-mul-comm, add-mul, mul-pos, lt-of-mul-lt-mul-right, le-of-mul-le-mul-right, mul-sub, sub-add-cancel, sub-eq-zero-of-le}
+use native.Mathlib.Nat.{le-trans, le-of-eq, le-of-lt, lt-of-lt-of-le, eq-or-lt-of-le, zero-lt-suc, zero-mul, mul-zero, mul-one, mul-comm, mul-assoc, mul-mul-mul-comm, add-mul, mul-pos, lt-of-mul-lt-mul-right, le-of-mul-le-mul-right, mul-sub, sub-add-cancel, sub-eq-zero-of-le}
 use native.Mathlib.Omega.{arith}
-use mathlib.Core.Bool.{Bool, true, false, not, _&&_, Bool·beq, cond, true≢false, false≢true}
-use lib.IntN.{ℤ, pos, negsuc, negℤ, natAbs, _+ℤ_, _-ℤ_, _*ℤ_, +ℤ-comm, +ℤ-negℤ-cancel, negℤ-+ℤ, negℤ-negℤ}
-use lib.Dec.{T, ltb, eqb, ltb→lt, nltb→le, lit≤, lit<, leb·suc-zero}
-use lib.Pow.{pow-pos, shl-lt}
-use lib.Ieee.{Float, nan, inf, fin, Format, binary64, prec, low, up, down, unlike, round, neg, sum, add, sub, mul, div, lt}
+use mathlib.Core.Bool.{Bool, true, false, not, cond, true≢false, false≢true}
+use lib.IntN.{ℤ, pos, negℤ, natAbs, _+ℤ_, _-ℤ_, _*ℤ_, +ℤ-comm, +ℤ-negℤ-cancel, negℤ-+ℤ, negℤ-negℤ}
+use lib.Dec.{T, ltb, ltb→lt, nltb→le, lit≤, lit<, leb·suc-zero}
+use lib.Pow.{shl-lt}
+use lib.Ieee.{Float, nan, inf, fin, binary64, up, down, unlike, round, neg, sum, add, sub, mul, div, lt}
 use lib.Ieee.Fits.{down-pos}
 use lib.Ieee.Exact.{HasValue, round-exact}
 use lib.Ieee.Scale.{round-same}

@@ -1,6 +1,6 @@
 -- `wind` meets its contract: each branch writes what the definition takes there.
 use borrow.Author.Needs.{needs}
-use mathlib.Core.Path.{_≡_, sym, ap, _∙_}
+use mathlib.Core.Path.{sym, _∙_}
 use Prim.Native.Nat.{_≤_}
 use native.Mathlib.Omega.{arith}
 use lib.ListN.{length}
@@ -83,6 +83,6 @@ pub wind-spec : {M : Type 1} → statement M
 wind-spec =
     tie.close
     (tie.spec
-    (λ c κs. search needs) reference-requires put-faces-requires (λ c. search needs) returns
-    (λ c κs. search needs) runs-clockwise-requires put-run-requires (λ c. search needs) returns-2
+    (λ c κs. tt) reference-requires put-faces-requires (λ c. search needs) returns
+    (λ c κs. tt) runs-clockwise-requires put-run-requires (λ c. search needs) returns-2
     copy-requires (λ c. search needs) returns-3)

@@ -6,18 +6,6 @@ use Rattle.winding.specs.declared.point.Point.{Point}
 use Rattle.winding.proofs.space.add_edge.Statement.{statement}
 use Rattle.winding.proofs.space.add_edge.Tie as tie
 
-enum-known-from : tie.Need-enum-known-from
-enum-known-from c = search needs
-
-enum-known-to : tie.Need-enum-known-to
-enum-known-to c = search needs
-
-enum-told : tie.Need-enum-told
-enum-told c = search needs
-
-enum-told-2 : tie.Need-enum-told-2
-enum-told-2 c = search needs
-
 returns : tie.Need-returns
 unfolding addEdge
 returns c =
@@ -37,4 +25,4 @@ returns-3 c = sym (ap (λ (p : Point). addEdge (c .before .before .args .n) p (c
 pub add-edge-spec : {M : Type 1} → statement M
 add-edge-spec =
     tie.close
-    (tie.spec enum-known-from enum-known-to enum-told enum-told-2 returns returns-2 returns-3)
+    (tie.spec (λ c. search needs) (λ c. search needs) (λ c. search needs) (λ c. search needs) returns returns-2 returns-3)

@@ -7,12 +7,6 @@ use Rattle.winding.specs.declared.point.Point.{Point}
 use Rattle.winding.proofs.space.dot_from.Statement.{statement}
 use Rattle.winding.proofs.space.dot_from.Tie as tie
 
-enum-known-point : tie.Need-enum-known-point
-enum-known-point c = search needs
-
-enum-told : tie.Need-enum-told
-enum-told c = search needs
-
 returns : tie.Need-returns
 unfolding dotFrom
 returns c =
@@ -25,4 +19,4 @@ unfolding dotFrom ofBits
 returns-2 c = sym (ap (λ (p : Point). dotFrom (c .before .before .args .n) p (c .before .before .args .reference)) (c .enum-told .given .1))
 
 pub dot-from-spec : {M : Type 1} → statement M
-dot-from-spec = tie.close (tie.spec enum-known-point enum-told returns returns-2)
+dot-from-spec = tie.close (tie.spec (λ c. search needs) (λ c. search needs) returns returns-2)

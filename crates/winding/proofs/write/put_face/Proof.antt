@@ -1,7 +1,7 @@
 -- `write::put_face` meets its contract: an empty face adds nothing; at the front the face is written, behind other
 -- entries a separator and the face.
-use mathlib.Core.Path.{_≡_, refl, sym, ap, _∙_}
-use mathlib.Core.List.{List, [], _∷_}
+use mathlib.Core.Path.{_≡_, sym, ap, _∙_}
+use mathlib.Core.List.{List}
 use mathlib.Core.Bool.{Bool}
 use Prim.Native.Nat.{ℕ, suc, _+_, _<_, _≤_}
 use native.Mathlib.Nat.{pos-of-ne-zero, add-zero, zero-add}
@@ -37,9 +37,6 @@ put-run-requires c κs =
     let z = c .before .if2 .taken in
     let l : length (piece (a .at) (now (a .face))) ≡ length (now (a .face)) = ap (λ (k : ℕ). length (piece k (now (a .face)))) z ∙ ap length (piece-zero (now (a .face))) in
     omega (arith, start .pre .1, l)
-
-same-length : tie.Need-same-length
-same-length c = search needs
 
 returns-2 : tie.Need-returns-2
 returns-2 c =
@@ -114,7 +111,7 @@ put-face-spec =
     returns
     looks-in-requires
     put-run-requires
-    same-length
+    (λ c. search needs)
     returns-2
     mul-out
     slice-write-out
