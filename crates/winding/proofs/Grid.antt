@@ -59,10 +59,13 @@ whole-means : (x : Float) → T (smallWhole x) → Means x (wholeOf x) × (natAb
 unfolding toSigned
 whole-means nan t = absurd t
 whole-means (inf s) t = absurd t
-whole-means (fin s m e) t = at s (m * up e / down e) (leb→le _ _ (and-r (eqb (m * up e % down e) 0) (leb (m * up e / down e) gridLimit) t)) (
-  refl,
-  mul-one (m * up e) ∙ sym (div-add-mod' (m * up e) (down e)) ∙ ap (λ (k : ℕ). m * up e / down e * down e + k) (eqb→eq _ _ (and-l (eqb (m * up e % down e) 0) (leb (m * up e / down e) gridLimit) t)) ∙ add-zero _,
-)
+whole-means (fin s m e) t =
+    at s (m * up e / down e) (leb→le _ _ (and-r (eqb (m * up e % down e) 0) (leb (m * up e / down e) gridLimit) t)) (
+      refl,
+      mul-one (m * up e) ∙ sym (div-add-mod' (m * up e) (down e))
+          ∙ ap (λ (k : ℕ). m * up e / down e * down e + k) (eqb→eq _ _ (and-l (eqb (m * up e % down e) 0) (leb (m * up e / down e) gridLimit) t))
+          ∙ add-zero _,
+    )
   where
     low-cap : (c : ℕ) → c ≤ gridLimit → min c (2 ^ 63) ≡ c
     low-cap c h = omega arith
@@ -154,7 +157,8 @@ module _ (points : List Float) where
   within : (a k : ℕ) → a ≤ k * most → k ≤ elementLimit → a ≤ 2 ^ 53
   within a k p q = omega arith
 
-  sum-means : (es : List Edge) (sum : Float) (z : ℤ) (k : ℕ) → AllGood es → Means sum z → natAbs z ≤ k * most → k + length es ≤ elementLimit
+  sum-means : (es : List Edge) (sum : Float) (z : ℤ) (k : ℕ) → AllGood es → Means sum z → natAbs z ≤ k * most
+      → k + length es ≤ elementLimit
       → Means (areaFrom points sum es) (exactFrom points z es) × (natAbs (exactFrom points z es) ≤ 2 ^ 53)
   unfolding areaFrom exactFrom
   sum-means [] sum z k g m b l = (m, within (natAbs z) k b (le-trans (le-of-eq (sym (add-zero k))) l))

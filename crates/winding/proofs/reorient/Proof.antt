@@ -28,7 +28,9 @@ passed c = sym (c .before .before .reorient-refusal .ensures) ∙ c .before .if1
 size : (c : tie.After-answer-size)
     → c .answer-size .result
     ≡ length (reoriented (Begin c .args .kind) (Begin c .args .ids .now) (Begin c .args .dimension) (Begin c .args .points .now))
-size c = c .answer-size .ensures ∙ sym (answer-length (Begin c .args .kind) (Begin c .args .ids .now) (Begin c .args .dimension) (Begin c .args .points .now))
+size c =
+    c .answer-size .ensures
+    ∙ sym (answer-length (Begin c .args .kind) (Begin c .args .ids .now) (Begin c .args .dimension) (Begin c .args .points .now))
 
 returns-2 : tie.Need-returns-2
 returns-2 c =

@@ -11,5 +11,11 @@ wants-point-spec =
     (λ c κs. tt) (λ c κs. tt) (λ c κs. tt) (λ c κs. tt)
     (λ c.
     let t = c .before .before in
-    simp (← t .before .before .turns-in-plane .ensures, ← t .before .turns-in-space .ensures, t .if1 .taken, ← c .before .point-count .ensures, c .lacks-point .ensures))
+    simp (
+      ← t .before .before .turns-in-plane .ensures,
+      ← t .before .turns-in-space .ensures,
+      t .if1 .taken,
+      ← c .before .point-count .ensures,
+      c .lacks-point .ensures,
+    ))
     (λ c. simp (← c .before .before .turns-in-plane .ensures, ← c .before .turns-in-space .ensures, c .if1 .left)))

@@ -29,7 +29,8 @@ returns : tie.Need-returns Inv-loop μ-loop
 unfolding lacksPoint
 returns c =
     let l = c .before in
-    sym (or-false (l .loop .found)) ∙ (rw (drop-of-length-le (l .before .before .args .ids .now) (c .loop-test .left)) at (l .loop .inv))
+    sym (or-false (l .loop .found))
+    ∙ (rw (drop-of-length-le (l .before .before .args .ids .now) (c .loop-test .left)) at (l .loop .inv))
 
 pub lacks-point-spec : {M : Type 1} → statement M
 lacks-point-spec =

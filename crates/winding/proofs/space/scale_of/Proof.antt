@@ -9,7 +9,8 @@ returns : tie.Need-returns
 returns c =
     c .larger2 .ensures
     ∙ ap₂ (λ (a b : Float). larger a b)
-    (c .before .before .larger .ensures ∙ ap₂ (λ (a b : Float). larger a b) (c .before .before .before .before .size .ensures) (c .before .before .before .size2 .ensures))
+    (c .before .before .larger .ensures
+    ∙ ap₂ (λ (a b : Float). larger a b) (c .before .before .before .before .size .ensures) (c .before .before .before .size2 .ensures))
     (c .before .size3 .ensures)
 
 pub scale-of-spec : {M : Type 1} → statement M

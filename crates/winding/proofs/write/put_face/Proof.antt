@@ -22,8 +22,10 @@ use Rattle.winding.proofs.write.put_face.Tie as tie
 returns : tie.Need-returns
 returns c =
     let a = c .before .before .before .before .args in
-    let face = now (a .face) in (
-      sym (ap (λ (l : List ℕ). splice (now (a .out)) (a .at) (piece (a .at) l)) (empty (outward (now (a .points)) (a .reference) face) (length-turned (looksIn (now (a .points)) (a .reference) face) face ∙ c .if1 .taken)) ∙ splice-nil (now (a .out)) (a .at)),
+    let face = now (a .face) in
+    let back = looksIn (now (a .points)) (a .reference) face in (
+      sym (ap (λ (l : List ℕ). splice (now (a .out)) (a .at) (piece (a .at) l)) (empty (turned back face) (length-turned back face ∙ c .if1 .taken))
+          ∙ splice-nil (now (a .out)) (a .at)),
       sym (ap (λ (l : List ℕ). a .at + length (piece (a .at) l)) (empty face (c .if1 .taken)) ∙ add-zero (a .at)),
     )
 
@@ -35,7 +37,8 @@ put-run-requires c κs =
     let start = c .before .before .before .before .before .before .before in
     let a = start .args in
     let z = c .before .if2 .taken in
-    let l : length (piece (a .at) (now (a .face))) ≡ length (now (a .face)) = ap (λ (k : ℕ). length (piece k (now (a .face)))) z ∙ ap length (piece-zero (now (a .face))) in
+    let face = now (a .face) in
+    let l : length (piece (a .at) face) ≡ length face = ap (λ (k : ℕ). length (piece k face)) z ∙ ap length (piece-zero face) in
     omega (arith, start .pre .1, l)
 
 returns-2 : tie.Need-returns-2
@@ -55,7 +58,8 @@ returns-2 c =
     )
 
 -- behind other entries there is room for the separator and the face
-room : (c : tie.Else2) → c .before .before .before .before .before .before .args .at + suc (length (now (c .before .before .before .before .before .before .args .face))) ≤ length (now (c .before .before .before .before .before .before .args .out))
+room : (c : tie.Else2)
+    → c .before .before .before .before .before .before .args .at + suc (length (now (c .before .before .before .before .before .before .args .face))) ≤ length (now (c .before .before .before .before .before .before .args .out))
 room c =
     let start = c .before .before .before .before .before .before in
     let a = start .args in

@@ -39,7 +39,8 @@ found c = next _ (c .before .before .loop .i) (c .before .loop-test .taken) (c .
 room : (c : tie.Start Inv-loop μ-loop)
     → length (Whole (turn (now (c .args .points)) (c .args .reference)) (keeps (now (c .args .points)) (c .args .reference)) (now (c .args .ids)) (now (c .args .out)))
     ≤ length (now (c .args .out))
-room c = omega (arith, c .pre .1, joined-length (turn (now (c .args .points)) (c .args .reference)) (keeps (now (c .args .points)) (c .args .reference)) (faces (now (c .args .ids))))
+room c =
+    omega (arith, c .pre .1, joined-length (turn (now (c .args .points)) (c .args .reference)) (keeps (now (c .args .points)) (c .args .reference)) (faces (now (c .args .ids))))
 
 loop-holds : tie.Need-loop-holds Inv-loop μ-loop
 loop-holds c = start _ _ _ _
