@@ -1,6 +1,6 @@
 # make        prove and build all
 # make test   the whole test; its last line is 'N passed, 0 failed' only if all of it passed
-# make demo   cut the sample door
+# make demo   cut the sample door and say what came out
 # make fmt    lay out every Rattle file
 # make clean  remove what was built
 
@@ -10,13 +10,14 @@ KIT := rattle-kit-5b logic 064da1ca440f63e7
 
 all: kit
 	@rt check
+	@rt staticlib tallyspool
 
 test: kit
 	@sh host/test
 
 demo: kit
-	@echo 'tallyspool: there is nothing to show yet: the program that cuts a file of cells, `split`, is not built.'
-	@echo 'tallyspool: what is here are proved layers of the library; `make test` proves and tests them.'
+	@mkdir -p target && rt check split >target/demo.log 2>&1 || { cat target/demo.log; exit 1; }
+	@sh samples/demo
 
 fmt: kit
 	@rt fmt

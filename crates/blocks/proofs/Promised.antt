@@ -6,7 +6,7 @@ use Prim.Native.Nat.{ℕ, _*_, _≤_}
 use lib.Dec.{eqb, ltb}
 use lib.ListN.{length, take}
 use borrow.Author.Tests.{eqb-true, eqb-false, ltb-false}
-use Rattle.base.specs.Outcome.{Outcome, overwrite, settle, decide, given}
+use Rattle.base.specs.Outcome.{Outcome, overwrite, settle, settleOne, decide, given}
 use Rattle.base.specs.declared.refusals.Answer.{Answer}
 use Rattle.base.proofs.Lists.{overwrite-front, overwrite-rest}
 use Rattle.base.proofs.Settle.{settle-gives}
@@ -23,7 +23,7 @@ pub record Success (why kind count : ℕ) (xs out : List ℕ) : Type 0 where
   pub is : settle why kind count xs out ≡ record { answer = given kind count; lent = overwrite xs out }
 
 success : (why kind count : ℕ) (xs out : List ℕ) → settle why kind count xs out .answer .refusal ≡ 0 → Success why kind count xs out
-unfolding settle decide
+unfolding settle settleOne decide
 success why kind count xs out h = go (eqb why 0) (ltb (length out) (length xs)) refl refl h
   where
     gives : Outcome Answer (List ℕ)

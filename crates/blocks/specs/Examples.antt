@@ -6,7 +6,7 @@ use lib.ListN.{replicate}
 use Rattle.base.specs.Kinds.{separator, nodesOf}
 use Rattle.base.specs.Checks.{blockRefusal, inputRefusal, blockFits, strays, holdsSeparator}
 use Rattle.base.specs.Gather.{pick, digits, corners}
-use Rattle.base.specs.Outcome.{Outcome, decide, settle, overwrite, given, refused}
+use Rattle.base.specs.Outcome.{Outcome, decide, settle, settleOne, overwrite, given, refused}
 use Rattle.base.specs.declared.refusals.Answer.{Answer}
 use Rattle.simplexes.specs.Split.{cut, simplexes, split, splitCount, splitKind}
 use Rattle.blocks.specs.Blocks.{cells, counts, splitBlock, splitBlockRefusal}
@@ -70,5 +70,5 @@ answered e =
     record { kind = e .kind; ids = e .ids; lent = e .lent; outcome = splitBlock (e .kind) (e .ids) (room (e .lent)) }
 
 pub examples-hold : map answered examples ≡ examples
-unfolding splitBlock splitBlockRefusal cells counts split splitCount splitKind simplexes cut settle decide overwrite pick blockRefusal inputRefusal blockFits strays holdsSeparator nodesOf
+unfolding splitBlock splitBlockRefusal cells counts split splitCount splitKind simplexes cut settle settleOne decide overwrite pick blockRefusal inputRefusal blockFits strays holdsSeparator nodesOf
 examples-hold = refl
