@@ -8,6 +8,7 @@ use lib.ListN.{getD}
 use lib.Ieee.{Float, nan, inf, fin, up, down, toSigned}
 use Rattle.faces.specs.Edges.{Edge, cycle}
 
+-- the largest size of a coordinate
 abbrev pub gridLimit : ℕ
 gridLimit = 2 ^ 20
 
