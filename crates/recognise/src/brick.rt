@@ -1,6 +1,6 @@
 // A HEX8 from the nodes of six quads, of which quad 0 is the bottom.
 ghost use mathlib.Core.Path.{_≡_};
-ghost use mathlib.Core.Bool.{_&&_, _||_, cond, not};
+ghost use mathlib.Core.Bool.{_&&_, cond, not};
 ghost use Prim.Native.Nat.{_<_, _≤_};
 ghost use lib.Dec.{eqb};
 ghost use Rattle.recognise.specs.Brick.{above, brick, brickNodes, hasEdge, home, inBottom, lacksOne, Near, opposite, place, side, sideAt, sides, top, touches};

@@ -2,7 +2,6 @@
 ghost use Rattle.faces.specs.Faces.{faces};
 ghost use Rattle.recognise.specs.Cells.{Holds};
 ghost use Rattle.recognise.specs.Recognise.{fromPhed, mixed, regular};
-ghost use Prim.Native.Nat.{_≤_};
 use super::brick::brick;
 use super::cells::Found;
 use super::lengths::nodes_in;
