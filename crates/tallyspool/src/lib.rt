@@ -9,9 +9,12 @@ ghost use Rattle.recognise.specs.FromPoly.{fromPoly};
 ghost use Rattle.records.specs.Wire.{readOutcome, writeOutcome};
 ghost use Rattle.simplexes.specs.Split.{toSimplexes};
 ghost use Rattle.winding.specs.Reorient.{reorientOutcome};
+ghost use Rattle.tallyspool.specs.Record.{splitRecord};
 use base::refusals::Answer;
 use parts::subentities::Codimension;
 use parts::subentities::Parts;
+
+mod record;
 
 // The sub-entities with the codimension absent, which means 1.
 #[no_mangle]
@@ -95,4 +98,12 @@ pub extern "C" fn ts_write_ids(ids: &[u64], out: &mut [u8]) -> Answer
     ensures { λ r. ⌜ Permits (writeOutcome (now (ids .entry)) (now (out .entry))) r (now (out .exit)) ⌝ }
 {
     records::wire::write_ids(ids, out)
+}
+
+// The simplexes of the cell that one record holds.
+#[no_mangle]
+pub extern "C" fn ts_split_record(bytes: &[u8], out: &mut [u64]) -> Answer
+    ensures { λ r. ⌜ Permits (splitRecord (now (bytes .entry)) (now (out .entry))) r (now (out .exit)) ⌝ }
+{
+    record::split_record(bytes, out)
 }
