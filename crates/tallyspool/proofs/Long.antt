@@ -1,16 +1,16 @@
 -- A separator by its halves, the ids of a whole record, and why more ids than any fixed kind has are refused.
-use mathlib.Core.Path.{_≡_, refl, sym, _∙_}
-use mathlib.Core.Bool.{Bool, true, false, cond, not, _&&_, _||_}
-use mathlib.Core.List.{List, [], _∷_}
+use mathlib.Core.Path.{_≡_, refl}
+use mathlib.Core.Bool.{Bool, true, false, cond, _&&_, _||_}
+use mathlib.Core.List.{List, _∷_}
 use Prim.Native.Nat.{ℕ, _+_, _-_, _*_, _/_, _<_, _≤_}
 use native.Mathlib.Omega.{arith}
 use lib.Dec.{T, eqb, leb, ltb}
 use lib.ListN.{length, take, drop, length-drop, List·getD-eq-default}
-use borrow.Author.Tests.{eq-eqb, ne-eqb, eqb-true, eqb-false, le-leb, le-ltb, lt-ltb, leb-true, ltb-true, ltb-false}
+use borrow.Author.Tests.{eq-eqb, ne-eqb, eqb-true, eqb-false, le-leb, le-ltb, lt-ltb, leb-true, ltb-true}
 use Rattle.base.specs.Checks.{elementFits, elementRefusal, inputRefusal, strays}
 use Rattle.base.specs.Kinds.{isKind, nodeCounts, nodesOf, separator}
 use Rattle.base.proofs.Lists.{rest-whole}
-use Rattle.base.proofs.Tables.{at, every}
+use Rattle.base.proofs.Tables.{at}
 use Rattle.base.proofs.Tests.{and-true}
 use Rattle.records.specs.Wire.{idsIn}
 use Rattle.records.proofs.Frames.{Stands}

@@ -55,7 +55,7 @@ fn split_bytes(kind: u64, bytes: &[u8], out: &mut [u64]) -> Answer
     if Kind::HEX21_NODES < count {
         return Answer::refused(long_refusal(kind, bytes));
     }
-    let mut ids = [0u64; 21];
+    let mut ids = [0u64; Kind::HEX21_NODES];
     read_ids(bytes, &mut ids);
     to_simplexes(kind, &ids[0..count], out)
 }
