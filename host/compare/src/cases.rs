@@ -140,10 +140,10 @@ fn any(operation: Operation, random: &mut Random) -> Case {
     match operation {
         Operation::Subentities | Operation::SubentitiesOf | Operation::ToPoly => {
             let kind = kind_of(random, &[PGON, PHED, TET4, WEDGE6, HEX8]);
-            let parameter = if random.one_in(50) {
-                random.bits()
-            } else {
-                random.below(5) as u64
+            let parameter = match operation {
+                Operation::SubentitiesOf if random.one_in(50) => random.bits(),
+                Operation::SubentitiesOf => random.below(5) as u64,
+                _ => 0,
             };
             case(operation, kind, parameter, list(random, kind))
         }

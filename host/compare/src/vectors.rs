@@ -15,7 +15,7 @@ use crate::expected::{ELEMENT_LIMIT, PHED, Source, expected};
 use crate::{SEED, cases, lengths, with_lengths};
 
 /// So many calls of each sort are kept.
-const OF_A_SORT: usize = 10;
+const OF_A_SORT: usize = 6;
 /// Out of so many.
 const CALLS: usize = 200_000;
 /// A stored call has at most so many ids, coordinates or entries, save at the limit of an element.
@@ -41,7 +41,7 @@ pub fn write(file: &str) -> ExitCode {
                 .max(lent.0)
                 .max(lent.1);
             let refusal = wanted.numbers.refusal;
-            let parameter = if source == Source::Paper || operation == Operation::ToPoly {
+            let parameter = if source == Source::Paper {
                 0
             } else {
                 case.parameter
