@@ -11,10 +11,11 @@ pub enum Operation {
     ToSimplexes,
     Reorient,
     SplitBlock,
+    SplitRecord,
 }
 
 impl Operation {
-    pub const ALL: [Operation; 7] = {
+    pub const ALL: [Operation; 8] = {
         use Operation::*;
         [
             Subentities,
@@ -24,6 +25,7 @@ impl Operation {
             ToSimplexes,
             Reorient,
             SplitBlock,
+            SplitRecord,
         ]
     };
 
@@ -36,6 +38,7 @@ impl Operation {
             "to_simplexes",
             "reorient",
             "split_block",
+            "split_record",
         ][self as usize - 1]
     }
 }
@@ -45,7 +48,8 @@ impl Operation {
 pub struct Case {
     pub operation: Operation,
     pub kind: u64,
-    /// The codimension of `subentities_of`, the dimension of `reorient`, else 0.
+    /// The codimension of `subentities_of`, the dimension of `reorient`, how the bytes of
+    /// `split_record` are damaged, else 0.
     pub parameter: u64,
     pub ids: Vec<u64>,
     pub points: Vec<f64>,
@@ -85,6 +89,23 @@ impl Outcome {
             out: vec![],
             ends: vec![],
         }
+    }
+}
+
+impl Case {
+    /// The call's kind and ids as a record: whole if the parameter is 0, else cut short, followed by
+    /// a byte, or of a length that is one too large.
+    pub fn record(&self) -> Vec<u8> {
+        let length = 2 + 8 * self.ids.len() as u32 + (self.parameter == 3) as u32;
+        let mut bytes = length.to_le_bytes().to_vec();
+        bytes.extend((self.kind as u16).to_le_bytes());
+        bytes.extend(self.ids.iter().flat_map(|id| id.to_le_bytes()));
+        match self.parameter {
+            1 => drop(bytes.pop()),
+            2 => bytes.push(0),
+            _ => {}
+        }
+        bytes
     }
 }
 

@@ -37,7 +37,7 @@ fn every_small(operation: Operation, take: &mut dyn FnMut(&Case)) {
         Operation::FromPoly => every_phed(operation, take),
         Operation::ToSimplexes => every_order(operation, take),
         Operation::Reorient => every_triangle(operation, take),
-        Operation::SplitBlock => {
+        Operation::SplitBlock | Operation::SplitRecord => {
             words(6, 6, &mut |ids| {
                 take(&case(operation, WEDGE6, 0, ids.to_vec()))
             });
@@ -157,6 +157,7 @@ fn any(operation: Operation, random: &mut Random) -> Case {
         }
         Operation::Reorient => reorient(random),
         Operation::SplitBlock => block(random),
+        Operation::SplitRecord => record(random),
     }
 }
 
@@ -356,6 +357,17 @@ fn damage(random: &mut Random, ids: &mut Vec<u64>) {
         3 => ids.truncate(at),
         _ => ids.swap(at, 0),
     }
+}
+
+/// A record of a cell, seldom damaged. Its kind has 16 bits.
+fn record(random: &mut Random) -> Case {
+    let kind = kind_of(random, &[8, 9, 10, 13, 14, 15, 16]).min(0xffff);
+    let damage = if random.one_in(20) {
+        1 + random.below(3) as u64
+    } else {
+        0
+    };
+    case(Operation::SplitRecord, kind, damage, list(random, kind))
 }
 
 /// Cells one after another, seldom with a ragged end or up to the limit of a block.

@@ -17,7 +17,7 @@ pub enum Source {
     Rust,
     /// The Rust's answer, with the wedge row that document 01 mends.
     Mended,
-    /// Document 01 alone: the input meets 1 to 4, 19, 20, a codimension above 3, or an added rule.
+    /// Document 01 alone: the input meets 1 to 4, 19, 20, a codimension above 3, 21, or an added rule.
     Paper,
 }
 
@@ -34,6 +34,9 @@ pub const BLOCK_LIMIT: usize = 65536;
 
 /// The numbers, and what is written over the fronts of outputs that are long enough.
 pub fn expected(case: &Case) -> (Source, Outcome) {
+    if case.operation == Operation::SplitRecord {
+        return record(case);
+    }
     let refusal = paper_refusal(case);
     if refusal != 0 {
         return (Source::Paper, Outcome::refused(refusal));
@@ -140,7 +143,7 @@ fn rust(case: &Case, cell: Element) -> Outcome {
         Operation::Reorient => {
             listed((cell.kind, wound(cell, cell.coords, case.parameter as usize)))
         }
-        Operation::SplitBlock => unreachable!("a block is split cell by cell"),
+        Operation::SplitBlock | Operation::SplitRecord => unreachable!("they are split as cells"),
     }
 }
 
@@ -200,6 +203,21 @@ fn simplexes(list: Vec<(ElementType, Vec<usize>)>) -> Outcome {
         out,
         ends: vec![],
     }
+}
+
+/// A record that is damaged or too long is refused; any other is split as its kind and ids are.
+fn record(case: &Case) -> (Source, Outcome) {
+    if case.parameter != 0 || case.ids.len() > ELEMENT_LIMIT {
+        return (Source::Paper, Outcome::refused(21));
+    }
+    let operation = Operation::ToSimplexes;
+    expected(&Case {
+        operation,
+        kind: case.kind,
+        parameter: 0,
+        ids: case.ids.clone(),
+        points: vec![],
+    })
 }
 
 /// The cells' answers one after another.

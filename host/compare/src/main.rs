@@ -1,6 +1,6 @@
 //! The comparison of every operation with the Rust.
 //!
-//!     compare [N]            N calls of each operation (1,000,000 if absent)
+//!     compare [N]            N calls of each operation (2,000,000 if absent)
 //!     compare --fault        puts faults into the library's answers, and finds each
 //!     compare --vectors FILE writes a sample of the expected answers for the program `replay`
 
@@ -23,7 +23,7 @@ fn main() -> ExitCode {
     let words: Vec<String> = std::env::args().skip(1).collect();
     let words: Vec<&str> = words.iter().map(String::as_str).collect();
     match words[..] {
-        [] => compare_all(1_000_000),
+        [] => compare_all(2_000_000),
         ["--fault"] => find_faults(),
         ["--vectors", file] => vectors::write(file),
         [n] if n.parse::<usize>().is_ok() => compare_all(n.parse().unwrap()),

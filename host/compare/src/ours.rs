@@ -54,6 +54,7 @@ unsafe extern "C" {
         m: usize,
     ) -> Answer;
     fn ts_split_block(k: u64, ids: *const u64, n: usize, out: *mut u64, m: usize) -> Answer;
+    fn ts_split_record(bytes: *const u8, n: usize, out: *mut u64, m: usize) -> Answer;
 }
 
 /// The call with outputs of these lengths, and all that they hold after it.
@@ -67,6 +68,7 @@ pub fn call(case: &Case, n_out: usize, n_ends: usize) -> Outcome {
         Operation::ToSimplexes => one(ts_to_simplexes, case, &mut out),
         Operation::Reorient => reorient(case, &mut out),
         Operation::SplitBlock => one(ts_split_block, case, &mut out),
+        Operation::SplitRecord => record(case, &mut out),
     };
     Outcome { numbers, out, ends }
 }
@@ -118,6 +120,12 @@ fn reorient(case: &Case, out: &mut [u64]) -> Numbers {
             out.len(),
         )
     })
+}
+
+fn record(case: &Case, out: &mut [u64]) -> Numbers {
+    let bytes = case.record();
+    // SAFETY: as in `parts`.
+    numbers(unsafe { ts_split_record(bytes.as_ptr(), bytes.len(), out.as_mut_ptr(), out.len()) })
 }
 
 fn numbers(a: Answer) -> Numbers {

@@ -1,7 +1,7 @@
 //! The stored answers of the program `replay`: a few calls of each sort, with what must come of them.
 //!
 //! A record is sixteen 2-byte numbers, then 8-byte words, all little-endian. The numbers are:
-//! operation (1 to 7, in the order of `Operation`), kind, codimension or dimension, then how many
+//! operation (1 to 7, in the order of `Operation`; `split_record` is not stored), kind, codimension or dimension, then how many
 //! ids, coordinates, entries of the first and of the second lent output follow; the refusal, kind,
 //! count, second kind and second count of the answer; who gives it (0 the Rust, 1 the Rust with the
 //! mended wedge row, 2 document 01); three zeros. Entry i of a lent output holds 0x5a5a << 48 plus i
@@ -27,7 +27,10 @@ type Sort = (Operation, u64, u64, u64, u8);
 pub fn write(file: &str) -> ExitCode {
     let mut sorts: BTreeMap<Sort, usize> = BTreeMap::new();
     let mut records = Vec::new();
-    for operation in Operation::ALL {
+    let stored = Operation::ALL
+        .into_iter()
+        .filter(|o| *o != Operation::SplitRecord);
+    for operation in stored {
         let mut turn = 0;
         cases::each_case(operation, CALLS, SEED, &mut |case| {
             let (source, answer) = expected(case);
