@@ -1,22 +1,31 @@
-# make        prove and build all
-# make test   the whole test; its last line is 'N passed, 0 failed' only if all of it passed
-# make demo   cut the sample door
-# make fmt    lay out every Rattle file
-# make clean  remove what was built
+# make          prove and build all
+# make test     the whole test; its last line is 'N passed, 0 failed' only if all of it passed
+# make demo     cut the sample door and say what came out
+# make compare  compare every operation with the Rust that is ported, a million calls each
+# make vectors  make the stored answers of the Rust anew, which `replay` replays
+# make fmt      lay out every Rattle file
+# make clean    remove what was built
 
 KIT := rattle-kit-5b logic 064da1ca440f63e7
 
-.PHONY: all test demo fmt clean kit
+.PHONY: all test demo compare vectors fmt clean kit
 
 all: kit
 	@rt check
+	@rt staticlib tallyspool
 
 test: kit
 	@sh host/test
 
 demo: kit
-	@echo 'tallyspool: there is nothing to show yet: the program that cuts a file of cells, `split`, is not built.'
-	@echo 'tallyspool: what is here are proved layers of the library; `make test` proves and tests them.'
+	@mkdir -p target && rt check split >target/demo.log 2>&1 || { cat target/demo.log; exit 1; }
+	@sh samples/demo
+
+compare: all
+	@host/compare/run
+
+vectors: all
+	@host/compare/vectors
 
 fmt: kit
 	@rt fmt

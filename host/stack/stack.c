@@ -1,18 +1,20 @@
 /*
  * Measures how deep each entry point reaches into the stack at its largest inputs.
  *
- *     stack [hungry]
+ *     stack [cabinet] [hungry]
  *
  * Each call runs on a stack of its own that is painted beforehand; the depth is from its top down to
  * the lowest byte that lost its paint, so the few bytes of the call itself are counted too. It fails
- * if one is deeper than 8 KiB. With `hungry`, a function that takes 9 KiB is measured beside them, to
- * show that it can fail.
+ * if one is deeper than 8 KiB. With `cabinet` that stack has exactly the 8 KiB of the cabinet
+ * computer, and below it lies a guard page: a call that wants more ends the program by a signal. With
+ * `hungry`, a function that takes 9 KiB is measured beside them, to show that both can fail.
  */
 #define _GNU_SOURCE
 #include <inttypes.h>
 #include <stdio.h>
 #include <stdlib.h>
 #include <string.h>
+#include <sys/mman.h>
 #include <ucontext.h>
 
 #include "tallyspool.h"
@@ -21,10 +23,11 @@ enum {
     SUBENTITIES, SUBENTITIES_OF, TO_POLY, FROM_POLY, TO_SIMPLEXES, REORIENT,
     SPLIT_BLOCK, READ_IDS, WRITE_IDS, SPLIT_RECORD, HUNGRY, ENTRIES
 };
-enum { LIMIT = 8192, STACK = 1 << 18, PAINT = 0xa5 };
+enum { LIMIT = 8192, ROOMY = 1 << 18, GUARD = 1 << 16, PAINT = 0xa5 };
 enum { MOST_IDS = TS_BLOCK_LIMIT, MOST_OUT = 3 * TS_BLOCK_LIMIT };
 
-static unsigned char stack[STACK] __attribute__((aligned(64)));
+static unsigned char *stack;
+static size_t stack_size;
 static uint64_t ids[MOST_IDS], out[MOST_OUT], ends[TS_ELEMENT_LIMIT];
 static double points[3 * TS_ELEMENT_LIMIT];
 static uint8_t bytes[8 * MOST_IDS];
@@ -50,19 +53,30 @@ static void hungry(void) {
     refusal = 0;
 }
 
+/* A stack of so many bytes, with pages below it that nothing may touch. */
+static void take_stack(size_t size) {
+    unsigned char *pages = mmap(NULL, GUARD + size, PROT_READ | PROT_WRITE, MAP_PRIVATE | MAP_ANONYMOUS, -1, 0);
+    if (pages == MAP_FAILED || mprotect(pages, GUARD, PROT_NONE) != 0) {
+        perror("stack");
+        exit(2);
+    }
+    stack = pages + GUARD;
+    stack_size = size;
+}
+
 /* How many bytes of the painted stack a call changes, from the top. */
 static size_t depth(void (*entry)(void)) {
-    memset(stack, PAINT, STACK);
+    memset(stack, PAINT, stack_size);
     getcontext(&there);
     there.uc_stack.ss_sp = stack;
-    there.uc_stack.ss_size = STACK;
+    there.uc_stack.ss_size = stack_size;
     there.uc_link = &here;
     makecontext(&there, entry, 0);
     swapcontext(&here, &there);
     size_t at = 0;
-    while (at < STACK && stack[at] == PAINT)
+    while (at < stack_size && stack[at] == PAINT)
         at++;
-    return STACK - at;
+    return stack_size - at;
 }
 
 static size_t deepest[ENTRIES];
@@ -156,7 +170,15 @@ static void measure_poly(uint64_t fixed) {
 }
 
 int main(int argc, char **argv) {
-    int count = argc > 1 && strcmp(argv[1], "hungry") == 0 ? ENTRIES : HUNGRY, deep = 0;
+    int count = HUNGRY, deep = 0;
+    size_t size = ROOMY;
+    for (int i = 1; i < argc; i++) {
+        if (strcmp(argv[i], "cabinet") == 0)
+            size = LIMIT;
+        else if (strcmp(argv[i], "hungry") == 0)
+            count = ENTRIES;
+    }
+    take_stack(size);
     n_points = 3 * TS_ELEMENT_LIMIT - 3 * TS_ELEMENT_LIMIT % 6;
     for (size_t i = 0; i < n_points; i++)
         points[i] = (double)(i * 7919 % 1000) / 16 - 31;
@@ -187,7 +209,8 @@ int main(int argc, char **argv) {
     measure_answered(WRITE_IDS);
     n_bytes = sizeof bytes;
     measure_answered(READ_IDS);
-    measure(HUNGRY);
+    if (count == ENTRIES)
+        measure(HUNGRY);
 
     for (int i = 0; i < count; i++) {
         printf("%-18s %5zu bytes\n", names[i], deepest[i]);

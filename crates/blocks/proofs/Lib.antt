@@ -1,2 +1,4 @@
 -- The laws behind the proofs of a block's split.
 pub mod Parts
+pub mod Promised
+pub mod Halves

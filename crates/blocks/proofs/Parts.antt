@@ -1,9 +1,9 @@
 -- A block's cells one after another: what the first i come to, and what the next one adds.
-use mathlib.Core.Path.{_≡_, refl, sym, _∙_, ap, ap₂}
+use mathlib.Core.Path.{_≡_, refl, sym, _∙_, ap}
 use mathlib.Core.Bool.{Bool, true, false, cond, _||_, false≢true}
 use mathlib.Core.List.{List, [], _∷_, _++_, append-assoc, append-nil}
-use Prim.Native.Nat.{ℕ, zero, suc, _+_, _*_, _-_, _/_, _%_, _≤_, _<_}
-use native.Mathlib.Nat.{zero-add, suc-add, zero-mul, suc-mul, add-comm, add-assoc, mul-le-mul-left, mul-le-mul-right, div-add-mod'}
+use Prim.Native.Nat.{ℕ, zero, suc, _+_, _*_, _-_, _/_, _≤_, _<_}
+use native.Mathlib.Nat.{zero-add, suc-add, zero-mul, suc-mul, add-comm, mul-le-mul-left, mul-le-mul-right, div-add-mod'}
 use native.Mathlib.Omega.{arith}
 use lib.Dec.{eqb}
 use lib.ListN.{length, take, drop, length-append}
@@ -157,6 +157,7 @@ hex-left kind h a b = eqb-true kind 15 (simp (ne-eqb kind 11 a, ne-eqb kind 13 b
 
 -- a block that is not refused: its kind fills space, its ids are few, and its cells are whole
 pub record Taken (kind : ℕ) (ids : List ℕ) : Type 0 where
+  pub passes : blockRefusal kind ids ≡ 0
   pub fills : isSolid kind ≡ true
   pub few : length ids ≤ 65536
   pub left : length ids / nodesOf kind * nodesOf kind ≤ length ids
@@ -167,6 +168,7 @@ taken kind ids h = go (eqb (blockRefusal kind ids) 0) (isSolid kind) refl refl h
   where
     go : (x y : Bool) → eqb (blockRefusal kind ids) 0 ≡ x → isSolid kind ≡ y → cond x (cond y 0 6) (blockRefusal kind ids) ≡ 0 → Taken kind ids
     go true true e f h = record {
+      passes = eqb-true _ 0 e;
       fills = f;
       few = block-accepted kind ids (eqb-true _ 0 e) .few;
       left = omega (arith, div-add-mod' (length ids) (nodesOf kind));

@@ -11,8 +11,36 @@ pub struct Face {
     pub end: usize,
 }
 
-// The next face at or after a place. Reading on at its end gives the faces one after another.
+// A reader of the faces that remembers its place.
+pub struct Faces<'a> {
+    pub ids: &'a [u64],
+    pub at: usize,
+}
+
+// A reader at a place of the list.
+pub fn place<'a>(ids: &'a [u64], at: usize) -> Faces<'a>
+    ensures { λ r. ⌜ (r .ids ≡ ids .entry) × (r .at ≡ at) ⌝ }
+{
+    Faces { ids, at }
+}
+
+// The face that the reader meets next.
+pub fn next<'a>(reader: Faces<'a>) -> Face
+    ensures { λ r. ⌜ r ≡ nextFace (now (reader .entry .ids)) (reader .entry .at) ⌝ }
+{
+    face_at(reader.ids, reader.at)
+}
+
+// The next face at or after a place, for callers with a plain list: reading on at its end gives the
+// faces one after another.
 pub fn next_face(ids: &[u64], at: usize) -> Face
+    ensures { λ r. ⌜ r ≡ nextFace (now (ids .entry)) at ⌝ }
+{
+    next(place(ids, at))
+}
+
+// What the reader does: the next face at or after a place of a list.
+fn face_at(ids: &[u64], at: usize) -> Face
     ensures { λ r. ⌜ r ≡ nextFace (now (ids .entry)) at ⌝ }
 {
     let start = past(ids, at, true);

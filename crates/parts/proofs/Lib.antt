@@ -1,4 +1,6 @@
 pub mod Tables
+pub mod PolyFaces
+pub mod PolyEdges
 mod Digits
 mod Sides
 mod Apart

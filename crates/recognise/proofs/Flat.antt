@@ -1,31 +1,21 @@
 -- The edges of the faces, read off the caller's list place by place.
 use Prim.Native.Nat.{ℕ, suc, zero, _+_, _-_, _≤_, _<_}
-use mathlib.Core.Path.{_≡_, refl, sym, ap, _∙_}
+use mathlib.Core.Path.{_≡_, refl, sym, _∙_}
 use mathlib.Core.List.{List, [], _∷_, _++_}
-use mathlib.Core.Bool.{Bool, true, false, cond, _&&_, _||_}
-use native.Mathlib.Numerals.{add-one, sub-one}
+use mathlib.Core.Bool.{Bool, true, false, cond, not, _&&_, _||_, false≢true}
+use native.Mathlib.Numerals.{add-one}
 use native.Mathlib.Nat.{add-zero}
 use native.Mathlib.Omega.{arith}
-use lib.ListN.{length, getD, drop, drop-of-length-le}
+use lib.ListN.{length, getD, drop-of-length-le}
 use lib.Seq.{drop-cons, getD-drop}
 use lib.Dec.{eqb}
-use borrow.Author.Tests.{eqb-true, eqb-false, eq-eqb, ne-eqb}
+use borrow.Author.Tests.{eqb-true, eqb-false, ne-eqb, le-leb, lt-leb}
 use Rattle.base.specs.Kinds.{separator}
-use Rattle.faces.specs.Faces.{Runs, onto, runs, lead, full, faces}
-use Rattle.faces.specs.Edges.{Edge, edge, along, cycle, edges, same, hits, count, twice}
-use Rattle.recognise.specs.Places.{head, follower}
-
--- an entry's edge goes in front, unless the entry is a separator (true)
-abbrev pub emit : Bool → Edge → List Edge → List Edge
-emit true e es = es
-emit false e es = e ∷ es
-
--- the edges of a list whose first face began with f
-unfoldable pub flat : ℕ → List ℕ → List Edge
-flat f [] = []
-flat f (x ∷ l) =
-    emit (eqb x separator) (edge x (cond (eqb (getD l 0 separator) separator) f (getD l 0 separator)))
-    (flat (cond (eqb x separator) (getD l 0 separator) f) l)
+use Rattle.base.proofs.Picks.{within-default}
+use Rattle.faces.specs.Faces.{onto, runs, lead, full, faces}
+use Rattle.faces.specs.Edges.{Edge, edge, along, cycle, edges, hits, count}
+use Rattle.recognise.proofs.Pairs.{paired}
+use Rattle.recognise.specs.Places.{emit, flat, head, follower, edgeAt, hitsAt, edgesFrom, laterAt}
 
 -- the entry after a node, or f where its face ends there
 next-entry : (f : ℕ) (l : List ℕ)
@@ -69,43 +59,56 @@ pub flat-faces : (l : List ℕ) → flat (head l 0) l ≡ edges (faces l)
 unfolding faces head
 flat-faces l = flat-runs (getD l 0 separator) l ∙ rw (lead-edges, ← first-entry)
 
--- what starts at place i, and what is left from there on
-module _ (l : List ℕ) (i : ℕ) where
-  abbrev pub here : ℕ
-  here = getD l i separator
-
-  abbrev pub left : List Edge
-  left = flat (head l i) (drop i l)
+-- one place further
+abbrev here : List ℕ → ℕ → ℕ
+here l i = getD l i separator
 
 module _ (l : List ℕ) (i : ℕ) (h : i < length l) where
-  flat-step : left l i ≡ emit (eqb (here l i) separator) (edge (here l i) (follower l i)) (left l (i + 1))
+  flat-step : edgesFrom l i ≡ emit (eqb (here l i) separator) (edgeAt l i) (edgesFrom l (i + 1))
   unfolding flat head
   flat-step = simp (add-one, drop-cons l i separator h, getD-drop, add-zero)
 
-  pub count-step : (d : Edge) → count d (left l i)
-      ≡ cond (eqb (here l i) separator) 0 (hits d (edge (here l i) (follower l i))) + count d (left l (i + 1))
+  pub count-step : (d : Edge) → count d (edgesFrom l i)
+      ≡ hitsAt l i d + count d (edgesFrom l (i + 1))
   unfolding count
   count-step d = rw flat-step (go (eqb (here l i) separator))
     where
-      go : (b : Bool) → count d (emit b (edge (here l i) (follower l i)) (left l (i + 1)))
-          ≡ cond b 0 (hits d (edge (here l i) (follower l i))) + count d (left l (i + 1))
+      go : (b : Bool) → count d (emit b (edgeAt l i) (edgesFrom l (i + 1)))
+          ≡ cond b 0 (hits d (edgeAt l i)) + count d (edgesFrom l (i + 1))
       go true = omega arith
       go false = refl
 
-  pub twice-step : (all : List Edge) → twice all (left l i)
-      ≡ ((eqb (here l i) separator || eqb (count (edge (here l i) (follower l i)) all) 2) && twice all (left l (i + 1)))
-  unfolding twice
-  twice-step all = rw flat-step (go (eqb (here l i) separator))
-    where
-      go : (b : Bool) → twice all (emit b (edge (here l i) (follower l i)) (left l (i + 1)))
-          ≡ ((b || eqb (count (edge (here l i) (follower l i)) all) 2) && twice all (left l (i + 1)))
-      go true = refl
-      go false = refl
+  -- the edge at i, if there is one, occurs k times behind it
+  module _ (p n k : ℕ) (later : k ≡ laterAt l i) where
+    after : Bool → Bool
+    after b = paired p n (emit b (edgeAt l i) (edgesFrom l (i + 1)))
+
+    laterIf : Bool → ℕ
+    laterIf b = cond b 0 (count (edgeAt l i) (edgesFrom l (i + 1)))
+
+    -- at most once: the check goes on
+    pub paired-on : (m : ℕ) → m ≡ cond (not (eqb (here l i) separator)) 1 0 → k ≤ 1
+        → paired p n (edgesFrom l i) ≡ paired (p + k) (n + m) (edgesFrom l (i + 1))
+    unfolding paired after laterIf
+    paired-on m one few = rw flat-step (go (eqb (here l i) separator) later one)
+      where
+        go : (b : Bool) → k ≡ laterIf b → m ≡ cond (not b) 1 0 → after b ≡ paired (p + k) (n + m) (edgesFrom l (i + 1))
+        go true q r = rw (q, r, add-zero, add-zero)
+        go false q r = rw (r, ← q, le-leb k 1 few)
+
+    -- more than once: the surface is not closed
+    pub paired-off : 1 < k → paired p n (edgesFrom l i) ≡ false
+    unfolding paired after laterIf
+    paired-off many = rw flat-step (go (eqb (here l i) separator) later)
+      where
+        go : (b : Bool) → k ≡ laterIf b → after b ≡ false
+        go true q = absurd (omega arith)
+        go false q = rw (← q, lt-leb k 1 many)
 
 -- past the last entry no edge is left
-pub none-left : (l : List ℕ) (i : ℕ) → length l ≤ i → left l i ≡ []
+pub none-from : (l : List ℕ) (i : ℕ) → length l ≤ i → edgesFrom l i ≡ []
 unfolding flat
-none-left l i h = rw (drop-of-length-le l h)
+none-from l i h = rw (drop-of-length-le l h)
 
 -- a face begins at k where the entry before is a separator (true), else its first node is that of the place before
 pub head-back : (l : List ℕ) (k : ℕ) (b : Bool) → 0 < k → eqb (getD l (k - 1) separator) separator ≡ b
@@ -134,35 +137,45 @@ follower-id l i h e = go (eqb (getD l (i + 1) separator) separator) refl e
     go true q e = head-id l i h e
     go false q e = eqb-false _ _ q e
 
--- how the edge from the entry x to y hits the one between a and b: x is a, it is b and not a, or it is neither
+-- how the edge from the entry x to y hits the one between a and b
 module _ (a b x y : ℕ) where
-  abbrev pub hitsFrom : ℕ
-  hitsFrom = cond (eqb x separator) 0 (hits (edge a b) (edge x y))
-
-  pub hit-at-a : (a ≡ separator → ⊥) → x ≡ a → cond (eqb b y) 1 0 ≡ hitsFrom
-  hit-at-a n e = rw (e, ne-eqb a separator n, eq-eqb a a refl) (go (eqb b y) refl (eqb a y) refl)
+  no-hit : (x ≡ a → ⊥) → (x ≡ b → ⊥) → hits (edge a b) (edge x y) ≡ 0
+  no-hit n m =
+      let na : a ≡ x → ⊥ = λ p. n (sym p) in
+      let nb : b ≡ x → ⊥ = λ p. m (sym p) in
+      rw (ne-eqb a x na, ne-eqb b x nb) (go (eqb a y))
     where
-      go : (p : Bool) → eqb b y ≡ p → (q : Bool) → eqb a y ≡ q → _≡_ {A = ℕ} (cond p 1 0) (cond (p || q && eqb b a) 1 0)
-      go true r q s = refl
-      go false r true s = rw (eqb-true a y s, r)
-      go false r false s = refl
-
-  pub hit-at-b : (b ≡ separator → ⊥) → (x ≡ a → ⊥) → x ≡ b → cond (eqb a y) 1 0 ≡ hitsFrom
-  hit-at-b n m e =
-      let ne : a ≡ b → ⊥ = λ p. m (e ∙ sym p) in
-      rw (e, ne-eqb b separator n, ne-eqb a b ne, eq-eqb b b refl) (go (eqb a y))
-    where
-      go : (q : Bool) → _≡_ {A = ℕ} (cond q 1 0) (cond (q && true) 1 0)
+      go : (q : Bool) → _≡_ {A = ℕ} (cond (q && false) 1 0) 0
       go true = refl
       go false = refl
 
-  pub hit-none : (x ≡ a → ⊥) → (x ≡ b → ⊥) → 0 ≡ hitsFrom
-  hit-none n m =
-      let na : a ≡ x → ⊥ = λ p. n (sym p) in
-      let nb : b ≡ x → ⊥ = λ p. m (sym p) in
-      rw (ne-eqb a x na, ne-eqb b x nb) (go (eqb x separator) (eqb a y))
+  -- a separator is no end of an edge, so it need not be told apart
+  pub hit-any : (a ≡ separator → ⊥) → (b ≡ separator → ⊥)
+      → hits (edge a b) (edge x y) ≡ cond (eqb x separator) 0 (hits (edge a b) (edge x y))
+  hit-any n m = go (eqb x separator) refl
     where
-      go : (p q : Bool) → _≡_ {A = ℕ} 0 (cond p 0 (cond (q && false) 1 0))
-      go true q = refl
-      go false true = refl
-      go false false = refl
+      go : (s : Bool) → eqb x separator ≡ s → hits (edge a b) (edge x y) ≡ cond s 0 (hits (edge a b) (edge x y))
+      go true e =
+          let q = eqb-true x separator e in
+          no-hit (λ p. n (sym p ∙ q)) (λ p. m (sym p ∙ q))
+      go false e = refl
+
+  hit-none : (x ≡ a → ⊥) → (x ≡ b → ⊥) → cond (eqb x separator) 0 (hits (edge a b) (edge x y)) ≡ 0
+  hit-none n m = rw (no-hit n m) (go (eqb x separator))
+    where
+      go : (s : Bool) → _≡_ {A = ℕ} (cond s 0 0) 0
+      go true = refl
+      go false = refl
+
+or-none : (p q : Bool) → (p || q) ≡ false → (p ≡ false) × (q ≡ false)
+or-none true q h = absurd (false≢true (sym h))
+or-none false q h = (refl, h)
+
+-- an entry that is neither a nor b can be passed over
+pub pass : (l : List ℕ) (i a b : ℕ) → i < length l → (eqb (getD l i 0) a || eqb (getD l i 0) b) ≡ false
+    → count (edge a b) (edgesFrom l (i + 1)) ≡ count (edge a b) (edgesFrom l i)
+pass l i a b h t =
+    let n = or-none (eqb (getD l i 0) a) (eqb (getD l i 0) b) t in
+    let d = within-default l i 0 separator h in
+    let z = hit-none a b (here l i) (follower l i) (λ e. eqb-false _ _ (n .0) (d ∙ e)) (λ e. eqb-false _ _ (n .1) (d ∙ e)) in
+    omega (arith, count-step l i h (edge a b))

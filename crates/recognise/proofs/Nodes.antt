@@ -1,5 +1,5 @@
 -- What one step of the walk over the faces does to the tally, to the lengths and to the nodes of the faces of one length.
-use Prim.Native.Nat.{ℕ, zero, suc, _+_, _-_, _*_, _≤_, _<_}
+use Prim.Native.Nat.{ℕ, _+_, _-_, _*_, _≤_, _<_}
 use mathlib.Core.Path.{_≡_, refl, sym, ap, _∙_}
 use mathlib.Core.List.{List, [], _∷_, _++_, append-assoc, append-nil}
 use mathlib.Core.Bool.{Bool, true, false, cond, _||_}
@@ -15,6 +15,7 @@ use Rattle.base.proofs.Lists.{rest-back}
 use Rattle.faces.specs.declared.Face.{Face}
 use Rattle.faces.specs.Faces.{lead, faces, part}
 use Rattle.faces.proofs.Walk.{Next, no-more}
+use Rattle.recognise.specs.Filling.{added}
 use Rattle.recognise.specs.Recognise.{tally, otherLength, ofLength, nodesIn}
 
 tally-lead : (n : ℕ) (r : List ℕ) (fs : List (List ℕ)) → 0 < n
@@ -90,10 +91,6 @@ of-length n f h = rw (eq-eqb (length f) n h)
 pub not-of-length : (n : ℕ) (f : List ℕ) → (length f ≡ n → ⊥) → ofLength n f ≡ []
 not-of-length n f h = rw (ne-eqb (length f) n h)
 
--- nodes behind those that are filled in
-abbrev pub added : List ℕ → List ℕ → ℕ → List ℕ
-added out more filled = take filled out ++ overwrite more (drop filled out)
-
 -- a part lent on from `filled` to the end that comes back with more
 pub part-home : (out more : List ℕ) (filled : ℕ) → putMid filled (length out - filled) out more ≡ take filled out ++ more
 part-home out more filled = ap (λ (l : List ℕ). take filled out ++ l) (rest-back out more filled)
@@ -120,7 +117,11 @@ module _ (was all out : List ℕ) (filled : ℕ) where
 
   module _ (more rest : List ℕ) (room : length all ≤ length was) (f : Filled was all out filled (more ++ rest)) where
     lengths : filled + (length more + length rest) ≡ length all
-    lengths = sym (rw (length-append, length-append, length-take-le filled out (f .within)) at (ap length (sym (f .whole))))
+    lengths = sym (rw (
+      length-append,
+      length-append,
+      length-take-le filled out (f .within),
+    ) at (ap length (sym (f .whole))))
 
     pub filled-room : filled + length more ≤ length out
     filled-room = omega (arith, lengths)

@@ -1,7 +1,7 @@
 -- Laws of a search that has come to place k and ends before m, where r is what the whole search finds; and of the search
 -- for the fourth node of a tetrahedron.
 use Prim.Native.Nat.{ℕ, suc, _+_, _-_, _≤_, _<_}
-use mathlib.Core.Path.{_≡_, sym, _∙_}
+use mathlib.Core.Path.{_≡_, _∙_}
 use mathlib.Core.List.{List, [], _∷_}
 use mathlib.Core.Bool.{Bool, true, false, cond, _||_}
 use native.Mathlib.Numerals.{add-one}
@@ -10,7 +10,7 @@ use lib.Dec.{eqb}
 use lib.ListN.{length, getD, drop, drop-of-length-le}
 use lib.Seq.{drop-cons}
 use Rattle.base.specs.Kinds.{separator}
-use Rattle.recognise.specs.Cells.{Cell, cell, none}
+use Rattle.recognise.specs.Cells.{cell, none}
 use Rattle.recognise.specs.Seek.{seek}
 use Rattle.recognise.specs.Tet.{fourth}
 

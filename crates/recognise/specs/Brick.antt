@@ -8,6 +8,7 @@ use Rattle.recognise.specs.declared.brick.Sides.{Sides}
 use Rattle.recognise.specs.Cells.{Cell, cell, none}
 use Rattle.recognise.specs.Seek.{seek, corner}
 
+-- x is a node of the bottom
 abbrev pub inBottom : List ℕ → ℕ → Bool
 inBottom quads x =
     eqb x (corner quads 0 0) || (eqb x (corner quads 0 1) || (eqb x (corner quads 0 2) || eqb x (corner quads 0 3)))
@@ -63,6 +64,7 @@ above quads k x = aboveAt quads k (place quads k x)
 unfoldable pub home : List ℕ → ℕ → ℕ
 home quads x = seek (λ j. eqb (corner quads 0 j) x || eqb (corner quads 0 (j + 1)) x) 0 4
 
+-- the node above the bottom node x
 unfoldable pub top : List ℕ → Sides → ℕ → ℕ
 top quads s x = above quads (sideAt s (home quads x)) x
 
@@ -74,10 +76,11 @@ brickNodes quads s =
     ∷ top quads s (corner quads 0 2) ∷ top quads s (corner quads 0 3)
     ∷ []
 
--- 17 if there is no opposite face, 18 if some bottom edge has no side face
+-- 18 if some bottom edge has no side face
 abbrev pub brickFrom : List ℕ → Sides → Cell
 brickFrom quads s = cond (lacksOne s) (none 18) (cell 15 (brickNodes quads s))
 
+-- o is the opposite face; 17 if there is none
 abbrev pub brickUnder : List ℕ → ℕ → Cell
 brickUnder quads o = cond (eqb o 6) (none 17) (brickFrom quads (sides quads o))
 

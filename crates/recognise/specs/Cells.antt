@@ -5,6 +5,7 @@ use mathlib.Core.List.{List, []}
 use lib.ListN.{length, take}
 use Rattle.recognise.specs.declared.cells.Found.{Found}
 
+-- why is 0, or else the refusal
 pub record Cell : Type 0 where
   pub why : ℕ
   pub kind : ℕ

@@ -1,4 +1,5 @@
 pub mod Places
+pub mod Filling
 pub mod Cells
 pub mod Seek
 pub mod Tet

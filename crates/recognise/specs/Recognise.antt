@@ -47,11 +47,14 @@ mixed fs = cond (eqb (tally 3 fs) 2 && eqb (tally 4 fs) 3) (wedge (nodesIn 3 fs)
 abbrev pub byLengths : List (List ℕ) → ℕ → ℕ → ℕ → Cell
 byLengths fs a b c = cond (eqb a 0) (none 8) (cond (eqb b 0) (regular fs) (cond (eqb c 0) (mixed fs) (none 10)))
 
+-- b and c as they follow from a
 abbrev pub byFirst : List (List ℕ) → ℕ → Cell
 byFirst fs a = byLengths fs a (otherLength a a fs) (otherLength a (otherLength a a fs) fs)
 
+-- the cell that faces make
 unfoldable pub fromFaces : List (List ℕ) → Cell
 fromFaces fs = byFirst fs (otherLength 0 0 fs)
 
+-- the cell that a PHED is
 abbrev pub fromPhed : List ℕ → Cell
 fromPhed ids = fromFaces (faces ids)

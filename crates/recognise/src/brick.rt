@@ -1,17 +1,20 @@
 // A HEX8 from the nodes of six quads, of which quad 0 is the bottom.
 ghost use mathlib.Core.Path.{_≡_};
-ghost use mathlib.Core.Bool.{_&&_, _||_, cond, not};
+ghost use mathlib.Core.Bool.{_&&_, cond, not};
 ghost use Prim.Native.Nat.{_<_, _≤_};
 ghost use lib.Dec.{eqb};
-ghost use Rattle.faces.specs.Edges.{edge, same};
 ghost use Rattle.recognise.specs.Brick.{above, brick, brickNodes, hasEdge, home, inBottom, lacksOne, Near, opposite, place, side, sideAt, sides, top, touches};
 ghost use Rattle.recognise.specs.Cells.{cell, Holds};
 ghost use Rattle.recognise.specs.Seek.{corner};
 use super::cells::Found;
+use super::surface::same;
 use base::lent::node;
 use base::refusals::Refusal;
 
-// The side face at each of the four bottom edges, 6 where there is none.
+// A brick's faces are numbered from 0 to 5; 6 stands for none.
+const NONE: usize = 6;
+
+// The side face at each of the four bottom edges.
 pub struct Sides {
     pub first: usize,
     pub second: usize,
@@ -24,7 +27,7 @@ pub fn brick(quads: &[u64]) -> Found
     ensures { λ r. ⌜ Holds (brick (now (quads .entry))) r ⌝ }
 {
     let o = opposite(quads);
-    if o == 6 {
+    if o == NONE {
         return Found::refused(Refusal::NO_OPPOSITE_FACE);
     }
     let sides = sides_at_edges(quads, o);
@@ -34,19 +37,19 @@ pub fn brick(quads: &[u64]) -> Found
     brick_from(quads, sides)
 }
 
-// The first face after the bottom that shares no node with it, or 6.
+// The first face after the bottom that shares no node with it, or none.
 fn opposite(quads: &[u64]) -> usize
     ensures { λ r. ⌜ (r ≡ opposite (now (quads .entry))) × (r ≤ 6) ⌝ }
 {
     let mut k = 1;
-    while k < 6 {
+    while k < NONE {
         if touches(quads, k) {
             k += 1;
         } else {
             return k;
         }
     }
-    6
+    NONE
 }
 
 // Whether quad k shares a node with the bottom.
@@ -94,10 +97,11 @@ fn sides_at_edges(quads: &[u64], o: usize) -> Sides
 fn lacks_one(sides: Sides) -> bool
     ensures { λ r. ⌜ r ≡ lacksOne sides ⌝ }
 {
-    (sides.first == 6) | ((sides.second == 6) | ((sides.third == 6) | (sides.fourth == 6)))
+    (sides.first == NONE)
+        | ((sides.second == NONE) | ((sides.third == NONE) | (sides.fourth == NONE)))
 }
 
-// The first face with bottom edge j that is neither the bottom nor o, or 6.
+// The first face with bottom edge j that is neither the bottom nor o, or none.
 fn side(quads: &[u64], o: usize, j: usize) -> usize
     requires { ⌜ j ≤ 4 ⌝ }
     ensures { λ r. ⌜ (r ≡ side (now (quads .entry)) o j) × (r ≤ 6) ⌝ }
@@ -105,13 +109,13 @@ fn side(quads: &[u64], o: usize, j: usize) -> usize
     let a = corner(quads, 0, j);
     let b = corner(quads, 0, j + 1);
     let mut k = 1;
-    while k < 6 {
+    while k < NONE {
         if is_side(quads, o, k, a, b) {
             return k;
         }
         k += 1;
     }
-    6
+    NONE
 }
 
 // Whether quad k is not o and has the edge between a and b.
@@ -134,12 +138,6 @@ fn has_edge(quads: &[u64], k: usize, a: u64, b: u64) -> bool
     let y = corner(quads, k, 2);
     let z = corner(quads, k, 3);
     same(a, b, w, x) | (same(a, b, x, y) | (same(a, b, y, z) | same(a, b, z, w)))
-}
-
-fn same(a: u64, b: u64, x: u64, y: u64) -> bool
-    ensures { λ r. ⌜ r ≡ same (edge a b) (edge x y) ⌝ }
-{
-    ((a == x) & (b == y)) | ((a == y) & (b == x))
 }
 
 // The brick on the bottom with these side faces.

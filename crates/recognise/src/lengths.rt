@@ -1,10 +1,10 @@
 // The lengths of a PHED's faces, and the nodes of those of one length.
 ghost use mathlib.Core.Path.{_≡_};
 ghost use Prim.Native.Nat.{_+_, _-_, _<_, _≤_};
-ghost use mathlib.Core.List.{_++_};
-ghost use lib.ListN.{drop, length, take};
+ghost use lib.ListN.{length};
 ghost use Rattle.base.specs.Outcome.{overwrite};
 ghost use Rattle.faces.specs.Faces.{faces, part};
+ghost use Rattle.recognise.specs.Filling.{added};
 ghost use Rattle.recognise.specs.Recognise.{nodesIn, ofLength, otherLength, tally};
 use super::surface::one_if;
 use base::lent::copy;
@@ -72,7 +72,7 @@ fn add_face(
     filled: usize,
 ) -> usize
     requires { ⌜ (start ≤ end) × (end ≤ length (now ids)) × (end - start ≡ n → filled + n ≤ length (now out)) ⌝ }
-    ensures { λ r. ⌜ (r ≡ filled + length (ofLength n (part (now (ids .entry)) start end))) × (now (out .exit) ≡ take filled (now (out .entry)) ++ overwrite (ofLength n (part (now (ids .entry)) start end)) (drop filled (now (out .entry)))) ⌝ }
+    ensures { λ r. ⌜ (r ≡ filled + length (ofLength n (part (now (ids .entry)) start end))) × (now (out .exit) ≡ added (now (out .entry)) (ofLength n (part (now (ids .entry)) start end)) filled) ⌝ }
 {
     if end - start == n {
         copy(&ids[start..end], &mut out[filled..]);

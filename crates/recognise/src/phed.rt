@@ -2,7 +2,6 @@
 ghost use Rattle.faces.specs.Faces.{faces};
 ghost use Rattle.recognise.specs.Cells.{Holds};
 ghost use Rattle.recognise.specs.Recognise.{fromPhed, mixed, regular};
-ghost use Prim.Native.Nat.{_≤_};
 use super::brick::brick;
 use super::cells::Found;
 use super::lengths::nodes_in;
@@ -14,6 +13,16 @@ use super::wedge::wedge;
 use base::kinds::Kind;
 use base::refusals::Refusal;
 
+// The nodes of four triangles and of six quads, and of a wedge's two triangles and three quads.
+const TET_TRIS: usize = 12;
+
+const BRICK_QUADS: usize = 24;
+
+const WEDGE_TRIS: usize = 6;
+
+const WEDGE_QUADS: usize = 12;
+
+// The cell that the faces make: 8 if there is none, 10 if they are of three lengths or more.
 pub fn recognise(ids: &[u64]) -> Found
     ensures { λ r. ⌜ Holds (fromPhed (now (ids .entry))) r ⌝ }
 {
@@ -39,12 +48,12 @@ fn regular(ids: &[u64]) -> Found
         return Found::refused(Refusal::OPEN_SURFACE);
     }
     if tally(ids, Kind::TRI3_NODES) == 4 {
-        let mut tris = [0u64; 12];
+        let mut tris = [0u64; TET_TRIS];
         nodes_in(ids, Kind::TRI3_NODES, &mut tris);
         return tet(&tris);
     }
     if tally(ids, Kind::QUAD4_NODES) == 6 {
-        let mut quads = [0u64; 24];
+        let mut quads = [0u64; BRICK_QUADS];
         nodes_in(ids, Kind::QUAD4_NODES, &mut quads);
         return brick(&quads);
     }
@@ -61,9 +70,9 @@ fn mixed(ids: &[u64]) -> Found
     if tally(ids, Kind::QUAD4_NODES) != 3 {
         return Found::refused(Refusal::NO_WEDGE_FACES);
     }
-    let mut tris = [0u64; 6];
+    let mut tris = [0u64; WEDGE_TRIS];
     nodes_in(ids, Kind::TRI3_NODES, &mut tris);
-    let mut quads = [0u64; 12];
+    let mut quads = [0u64; WEDGE_QUADS];
     nodes_in(ids, Kind::QUAD4_NODES, &mut quads);
     wedge(&tris, &quads)
 }

@@ -1,72 +1,92 @@
 // Whether faces close to a surface: every undirected edge of their cycles occurs exactly twice. The
-// edges are read off the caller's list, none are kept.
+// edges are read off the caller's list, none are kept. It is enough to look behind each edge: if none
+// occurs there more than once, each occurs twice exactly when half of the edges do.
 ghost use mathlib.Core.Path.{_≡_};
-ghost use mathlib.Core.Bool.{_||_, cond};
+ghost use mathlib.Core.Bool.{cond};
 ghost use Prim.Native.Nat.{_<_, _≤_};
-ghost use lib.Dec.{eqb};
-ghost use lib.ListN.{getD, length};
+ghost use lib.ListN.{length};
 ghost use Rattle.base.specs.Kinds.{separator};
-ghost use Rattle.faces.specs.Edges.{closed, count, edge, edges, hits};
+ghost use Rattle.faces.specs.Edges.{closed, count, edge, same};
 ghost use Rattle.faces.specs.Faces.{faces};
-ghost use Rattle.recognise.specs.Places.{follower, head};
+ghost use Rattle.recognise.specs.Places.{edgesFrom, follower, head, hitsAt, laterAt};
 use base::kinds::Kind;
 use base::lent::node;
 
+// Whether every edge occurs exactly twice.
 pub fn is_closed(ids: &[u64]) -> bool
     ensures { λ r. ⌜ r ≡ closed (faces (now (ids .entry))) ⌝ }
 {
+    let mut edges: usize = 0;
+    let mut pairs: usize = 0;
     let mut i = 0;
     while i < ids.len() {
-        if is_paired(ids, i) {
-            i += 1;
-        } else {
+        let later = occurs_later(ids, i);
+        if 1 < later {
             return false;
         }
+        edges += one_if(node(ids, i) != Kind::SEPARATOR);
+        pairs += later;
+        i += 1;
     }
-    true
+    edges == pairs + pairs
 }
 
-// Whether the edge that starts at a place occurs exactly twice. None starts at a separator.
-fn is_paired(ids: &[u64], i: usize) -> bool
+// How often the edge that starts at a place occurs behind it. None starts at a separator.
+fn occurs_later(ids: &[u64], i: usize) -> usize
     requires { ⌜ i < length (now ids) ⌝ }
-    ensures { λ r. ⌜ r ≡ (eqb (getD (now (ids .entry)) i separator) separator || eqb (count (edge (getD (now (ids .entry)) i separator) (follower (now (ids .entry)) i)) (edges (faces (now (ids .entry))))) 2) ⌝ }
+    ensures { λ r. ⌜ r ≡ laterAt (now (ids .entry)) i ⌝ }
 {
     let from = node(ids, i);
     if from == Kind::SEPARATOR {
-        return true;
+        return 0;
     }
-    occurrences(ids, from, follower(ids, i)) == 2
+    occurrences(ids, i + 1, from, follower(ids, i))
 }
 
-// How often the edge between a and b occurs, in either direction. A face that runs it twice counts
-// twice.
-fn occurrences(ids: &[u64], a: u64, b: u64) -> usize
+// How often the edge between a and b occurs from a place on, in either direction. A face that runs
+// it twice counts twice.
+fn occurrences(ids: &[u64], at: usize, a: u64, b: u64) -> usize
     requires { ⌜ (a ≡ separator → ⊥) × (b ≡ separator → ⊥) ⌝ }
-    ensures { λ r. ⌜ r ≡ count (edge a b) (edges (faces (now (ids .entry)))) ⌝ }
+    ensures { λ r. ⌜ r ≡ count (edge a b) (edgesFrom (now (ids .entry)) at) ⌝ }
 {
     let mut found: usize = 0;
-    let mut i = 0;
+    let mut i = next_end(ids, at, a, b);
     while i < ids.len() {
         found += hit(ids, i, a, b);
-        i += 1;
+        i = next_end(ids, i + 1, a, b);
     }
     found
 }
 
-// 1 if the edge that starts at a place is the one between a and b, else 0. Most places hold neither
-// end, so the end of the edge there is looked up only at one that does.
+// The first place from a place on that holds a or b: no edge between them starts before it. Most
+// places hold neither, so this loop does nothing else.
+fn next_end(ids: &[u64], at: usize, a: u64, b: u64) -> usize
+    ensures { λ r. ⌜ (at ≤ r) × (count (edge a b) (edgesFrom (now (ids .entry)) r) ≡ count (edge a b) (edgesFrom (now (ids .entry)) at)) ⌝ }
+{
+    let mut i = at;
+    while i < ids.len() {
+        if (ids[i] == a) | (ids[i] == b) {
+            return i;
+        }
+        i += 1;
+    }
+    i
+}
+
+// 1 if the edge that starts at a place is the one between a and b, else 0.
 fn hit(ids: &[u64], i: usize, a: u64, b: u64) -> usize
     requires { ⌜ (i < length (now ids)) × (a ≡ separator → ⊥) × (b ≡ separator → ⊥) ⌝ }
-    ensures { λ r. ⌜ (r ≡ cond (eqb (getD (now (ids .entry)) i separator) separator) 0 (hits (edge a b) (edge (getD (now (ids .entry)) i separator) (follower (now (ids .entry)) i)))) × (r ≤ 1) ⌝ }
+    ensures { λ r. ⌜ (r ≡ hitsAt (now (ids .entry)) i (edge a b)) × (r ≤ 1) ⌝ }
 {
-    let from = ids[i];
-    if from == a {
-        return one_if(b == follower(ids, i));
-    }
-    if from == b {
-        return one_if(a == follower(ids, i));
-    }
-    0
+    one_if(same(a, b, node(ids, i), follower(ids, i)))
+}
+
+// Whether a to b and x to y are the same edge, in either direction. All four comparisons are made: a
+// branch among them would be hard to foresee.
+pub fn same(a: u64, b: u64, x: u64, y: u64) -> bool
+    ensures { λ r. ⌜ r ≡ same (edge a b) (edge x y) ⌝ }
+{
+    ((a == x) & (b == y)) | ((a == y) & (b == x))
 }
 
 pub fn one_if(test: bool) -> usize

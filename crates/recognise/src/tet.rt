@@ -1,5 +1,4 @@
 // A TET4 from the nodes of four triangles.
-ghost use Prim.Native.Nat.{_≤_};
 ghost use Rattle.recognise.specs.Cells.{Holds};
 ghost use Rattle.recognise.specs.Tet.{tet};
 use super::cells::Found;

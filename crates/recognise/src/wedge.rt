@@ -9,6 +9,9 @@ use super::cells::Found;
 use base::lent::node;
 use base::refusals::Refusal;
 
+// The quads and the places of a triangle are numbered from 0 to 2; 3 stands for none.
+const NONE: usize = 3;
+
 // The first triangle turned over, and the second from the node round that the first quad along the
 // edge v1 to v0 leads to.
 pub fn wedge(tris: &[u64], quads: &[u64]) -> Found
@@ -17,12 +20,12 @@ pub fn wedge(tris: &[u64], quads: &[u64]) -> Found
     let v0 = node(tris, 0);
     let v1 = node(tris, 1);
     let k = runs_in(quads, v1, v0);
-    if k == 3 {
+    if k == NONE {
         return Found::refused(Refusal::NO_QUAD_AT_EDGE);
     }
     let after = corner(quads, k, runs_at(quads, k, v1, v0) + 2);
     let m = place_in_second(tris, after);
-    if m == 3 {
+    if m == NONE {
         return Found::refused(Refusal::NOT_IN_SECOND_TRIANGLE);
     }
     wedge_from(tris, m)
@@ -43,19 +46,19 @@ fn wedge_from(tris: &[u64], m: usize) -> Found
     )
 }
 
-// The first quad that runs v to w, or 3.
+// The first quad that runs v to w, or none.
 fn runs_in(quads: &[u64], v: u64, w: u64) -> usize
     ensures { λ r. ⌜ (r ≡ runsIn (now (quads .entry)) v w) × (r ≤ 3) ⌝ }
 {
     let mut k = 0;
-    while k < 3 {
+    while k < NONE {
         if runs_at(quads, k, v, w) == 4 {
             k += 1;
         } else {
             return k;
         }
     }
-    3
+    NONE
 }
 
 // The first place at which quad k runs v to w, or 4.
@@ -75,16 +78,16 @@ fn runs_at(quads: &[u64], k: usize, v: u64, w: u64) -> usize
     )
 }
 
-// The place of a node in the second triangle, or 3.
+// The place of a node in the second triangle, or none.
 fn place_in_second(tris: &[u64], v: u64) -> usize
     ensures { λ r. ⌜ (r ≡ placeInSecond (now (tris .entry)) v) × (r ≤ 3) ⌝ }
 {
     let mut m = 0;
-    while m < 3 {
+    while m < NONE {
         if node(tris, 3 + m) == v {
             return m;
         }
         m += 1;
     }
-    3
+    NONE
 }

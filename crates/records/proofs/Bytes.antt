@@ -1,12 +1,12 @@
--- Laws of numbers as bytes, and of ids as runs of eight.
-use mathlib.Core.Path.{_≡_, refl, sym, _∙_, ap}
+-- Laws of numbers as bytes and of ids as runs of eight, and that ids are read as they were written.
+use mathlib.Core.Path.{_≡_, refl, _∙_, ap}
 use Prim.Native.Nat.{ℕ, zero, suc, _+_, _*_, _/_, _%_, _^_, _<_, _≤_}
 use native.Mathlib.Nat.{mul-assoc, pow-succ', le-of-suc-le-suc, not-suc-le-zero}
 use native.Mathlib.Numerals.{add-one}
 use native.Mathlib.Omega.{arith}
 use mathlib.Core.List.{List, [], _∷_, _++_, append-assoc, append-nil}
 use lib.ListN.{length, getD, take, drop, set, length-append, length-drop}
-use lib.Seq.{drop-cons, drop-drop, take-add, take-suc, length-take-le}
+use lib.Seq.{drop-cons, drop-drop, take-add, take-suc, length-take-le, take-at, drop-at}
 use borrow.Author.Tests.{eq-eqb}
 use Rattle.base.specs.Outcome.{Permits, overwrite, given}
 use Rattle.base.specs.declared.refusals.Answer.{Answer}
@@ -99,3 +99,25 @@ module _ (bytes out : List ℕ) (answer : Answer) (lent : List ℕ)
   read-front =
       let ids = idsIn (length bytes / 8) bytes in
       rw (read-count, gives .left) (rw (length-ids (length bytes / 8) bytes) at (overwrite-front ids out))
+
+-- bytes are read as the number that was written
+number-low-bytes : (n x : ℕ) → x < 256 ^ n → number (lowBytes n x) ≡ x
+unfolding number lowBytes
+number-low-bytes zero x h = omega (arith, h)
+number-low-bytes (suc n) x h =
+    let p = pow-succ' 256 n in
+    let r = number-low-bytes n (x / 256) (omega arith) in
+    rw r (omega arith)
+
+-- every id fits its eight bytes
+abbrev pub Fit : List ℕ → Type 0
+Fit [] = Unit {0}
+Fit (id ∷ ids) = (id < 256 ^ 8) × Fit ids
+
+-- ids that are written and read again are the same
+pub ids-again : (ids : List ℕ) → Fit ids → idsIn (length ids) (idBytes ids) ≡ ids
+unfolding idsIn idBytes
+ids-again [] f = refl
+ids-again (id ∷ ids) f =
+    let e = length-low-bytes 8 id in
+    rw (take-at (lowBytes 8 id) (idBytes ids) 8 e, drop-at (lowBytes 8 id) (idBytes ids) 8 e, number-low-bytes 8 id (f .0), ids-again ids (f .1))

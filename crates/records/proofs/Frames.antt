@@ -1,21 +1,18 @@
 -- What holds of a length that a record has, where a whole record stands, and that more bytes behind it change nothing.
-use mathlib.Core.Path.{_≡_, refl, sym, _∙_, subst}
-use mathlib.Core.Bool.{Bool, true, false, cond, not, _||_, true≢false}
+use mathlib.Core.Path.{_≡_, subst}
+use mathlib.Core.Bool.{false}
 use mathlib.Core.List.{List, _++_}
-use Prim.Native.Nat.{ℕ, _+_, _-_, _*_, _/_, _%_, _≤_}
+use Prim.Native.Nat.{ℕ, _+_, _-_, _*_, _%_, _≤_}
 use native.Mathlib.Omega.{arith}
 use lib.Dec.{eqb, ltb}
-use lib.ListN.{length, take, drop, length-append, length-drop}
+use lib.ListN.{length, drop, length-append, length-drop}
 use lib.Seq.{take-append-le, drop-append-le}
-use borrow.Author.Tests.{ltb-true, ltb-false, le-ltb, eqb-true, eqb-false, ne-eqb, not-false}
+use borrow.Author.Tests.{ltb-false, le-ltb, eqb-true, ne-eqb, not-false}
 use Rattle.records.specs.Frame.{oddLength, frameAt}
 use Rattle.records.specs.Wire.{numberAt}
 use Rattle.records.specs.declared.frame.Frame.{Frame}
 use Rattle.records.specs.declared.frame.Frame.the-variants.{Whole, End, Cut, Odd}
-
-neither : (a b : Bool) → (a || b) ≡ false → (a ≡ false) × (b ≡ false)
-neither true b h = absurd (true≢false h)
-neither false b h = (refl, h)
+use Rattle.records.proofs.Tests.{by-test, neither}
 
 pub record Fitting (len : ℕ) : Type 0 where
   pub kinded : 2 ≤ len
@@ -28,11 +25,6 @@ fitting len h =
     let s = neither (ltb len 2) _ h in
     let t = neither (ltb 32770 len) _ (s .1) in
     record { kinded = ltb-false _ _ (s .0); short = ltb-false _ _ (t .0); whole = eqb-true _ _ (not-false _ (t .1)) }
-
--- what holds of each outcome of a test, given that outcome, holds of its outcome
-by-test : (P : Frame → Type 0) (b : Bool) {x y : Frame} → (b ≡ true → P x) → (b ≡ false → P y) → P (cond b x y)
-by-test P true p q = p refl
-by-test P false p q = q refl
 
 -- the ids of a whole record: bytes among those in hand, in eights, and at most 4,096
 pub record Stands (size start count next : ℕ) : Type 0 where

@@ -1,4 +1,5 @@
 -- The laws that the proofs of records share.
+pub mod Tests
 pub mod Places
 pub mod Bytes
 pub mod Decimals

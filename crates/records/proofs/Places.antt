@@ -1,14 +1,13 @@
 -- Laws of bytes put at a place: in which order they are put does not matter.
-use mathlib.Core.Path.{_≡_, refl, sym, _∙_, ap}
+use mathlib.Core.Path.{_≡_, refl, sym, _∙_}
 use Prim.Native.Nat.{ℕ, suc, _+_, _<_, _≤_}
 use native.Mathlib.Nat.{add-zero}
 use native.Mathlib.Numerals.{add-one}
 use native.Mathlib.Omega.{arith}
 use mathlib.Core.List.{List, [], _∷_, _++_, append-assoc}
-use lib.ListN.{length, getD, take, drop, set, length-append, length-drop, take-append-drop}
+use lib.ListN.{length, take, drop, set, length-append, take-append-drop}
 use lib.Seq.{take-at, drop-at, drop-drop, set-split, length-take-le, take-set-le}
 use Rattle.base.specs.Outcome.{overwrite}
-use Rattle.base.proofs.Lists.{length-overwrite}
 use Rattle.records.specs.Place.{putAt, Written}
 
 pub put-none : (at : ℕ) (out : List ℕ) → putAt [] at out ≡ out

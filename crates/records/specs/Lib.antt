@@ -2,3 +2,4 @@ pub mod Place
 pub mod Wire
 pub mod Frame
 pub mod Text
+pub mod Examples

@@ -6,11 +6,11 @@ ghost use Prim.Native.Nat.{_+_, _*_, _≤_};
 ghost use lib.ListN.{length};
 ghost use Rattle.base.specs.Kinds.{nodesOf};
 ghost use Rattle.records.specs.Place.{Written, putAt};
-ghost use Rattle.records.specs.Text.{blank, decimal, endText, line, lineFeed, places, recordText, simplexLines, spaced, spelled};
+ghost use Rattle.records.specs.Text.{decimal, endText, line, places, recordText, simplexLines, spaced, spelled};
 use base::kinds::node_count;
 use base::refusals::Answer;
 
-// The bytes that a text has beside its digits.
+// The bytes that a text is made of.
 pub struct Text(pub u8);
 
 impl Text {
@@ -18,6 +18,7 @@ impl Text {
 
     pub const LINE_FEED: u8 = b'\n';
 
+    // The digit 0; the others follow it.
     pub const ZERO: u64 = 48;
 }
 
@@ -68,7 +69,7 @@ fn put_simplexes(kind: u64, count: u64, ids: &[u64], out: &mut [u8], at: usize) 
     next
 }
 
-// A line of at most five numbers.
+// A line of numbers.
 fn put_line(first: u64, others: &[u64], out: &mut [u8], at: usize) -> usize
     requires { ⌜ at + (21 + 21 * length (now others)) ≤ length (now out) ⌝ }
     ensures { λ r. ⌜ Written (line first (now (others .entry))) at (now (out .entry)) r (now (out .exit)) ⌝ }

@@ -72,7 +72,9 @@ fn id_at(bytes: &[u8], at: usize) -> u64
     requires { ⌜ at + 8 ≤ length (now bytes) ⌝ }
     ensures { λ r. ⌜ r ≡ numberAt 8 (now (bytes .entry)) at ⌝ }
 {
-    four_at(bytes, at) + 4294967296 * four_at(bytes, at + 4)
+    let low = four_at(bytes, at);
+    let high = four_at(bytes, at + 4);
+    low + 4294967296 * high
 }
 
 // The 4-byte number that begins at a place.
@@ -80,7 +82,9 @@ pub fn four_at(bytes: &[u8], at: usize) -> u64
     requires { ⌜ at + 4 ≤ length (now bytes) ⌝ }
     ensures { λ r. ⌜ (r ≡ numberAt 4 (now (bytes .entry)) at) × (r < 4294967296) ⌝ }
 {
-    two_at(bytes, at) + 65536 * two_at(bytes, at + 2)
+    let low = two_at(bytes, at);
+    let high = two_at(bytes, at + 2);
+    low + 65536 * high
 }
 
 // The 2-byte number that begins at a place.
@@ -88,7 +92,9 @@ pub fn two_at(bytes: &[u8], at: usize) -> u64
     requires { ⌜ at + 2 ≤ length (now bytes) ⌝ }
     ensures { λ r. ⌜ (r ≡ numberAt 2 (now (bytes .entry)) at) × (r < 65536) ⌝ }
 {
-    wide(bytes[at]) + 256 * wide(bytes[at + 1])
+    let low = wide(bytes[at]);
+    let high = wide(bytes[at + 1]);
+    low + 256 * high
 }
 
 fn wide(byte: u8) -> u64

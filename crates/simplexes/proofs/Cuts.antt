@@ -1,7 +1,7 @@
 -- Which cut a kind has, and that gathering by its rows writes its simplexes.
 use mathlib.Core.Path.{_≡_, refl, sym, _∙_, ap, ap₂}
 use mathlib.Core.Bool.{Bool, true, false, cond}
-use mathlib.Core.List.{List, [], _∷_, _++_}
+use mathlib.Core.List.{List, [], _∷_}
 use Prim.Native.Nat.{ℕ, zero, suc, _+_, _*_, _/_, _%_, _≤_, _<_, min}
 use native.Mathlib.Nat.{zero-mul, suc-mul, add-comm, mul-le-mul}
 use native.Mathlib.Omega.{arith}

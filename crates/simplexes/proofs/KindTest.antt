@@ -4,7 +4,7 @@ use mathlib.Core.Bool.{Bool, true, false, cond, _&&_, _||_, not, Bool·beq}
 use mathlib.Core.List.{List, [], _∷_, _++_, map}
 use Prim.Native.Nat.{ℕ, zero, suc}
 use lib.ListN.{getD, length}
-use lib.Dec.{T, eqb, ltb}
+use lib.Dec.{eqb, ltb}
 use Rattle.simplexes.specs.Smallest.{onFirst}
 use Rattle.simplexes.specs.Triangle.{Tri, tri, same, flip, tetTris, cutFace}
 use Rattle.simplexes.proofs.Laws.{below, all, mem, sub}

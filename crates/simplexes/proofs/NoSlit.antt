@@ -2,7 +2,7 @@
 use mathlib.Core.Path.{_≡_, refl, _∙_, ap, ap₂}
 use mathlib.Core.Bool.{Bool, true, false, cond, _||_, false≢true}
 use mathlib.Core.List.{List, [], _∷_, _++_, map}
-use mathlib.Core.Logic.{_⊎_, inl, inr}
+use mathlib.Core.Logic.{inl, inr}
 use Prim.Native.Nat.{ℕ, _+_, _≤_, _<_, min}
 use native.Mathlib.Omega.{arith}
 use lib.Dec.{T, eqb, ltb, ltb→lt}
@@ -15,7 +15,7 @@ use Rattle.simplexes.specs.Smallest.{smallestPos, firstDiagonal}
 use Rattle.simplexes.specs.Rows.{branch, tetRows, wedgeQuads, wedgeFirst, wedgeSecond, renumberings, hexRows, caseOf}
 use Rattle.simplexes.specs.Split.{cut, simplexes, split, splitKind, renumbered, hexCase}
 use Rattle.simplexes.specs.Triangle.{Tri, flip, count, total, tetTris}
-use Rattle.simplexes.specs.Demand3.{Cell, Proper, AllProper, Distinct, OnceOrTwice, isSolid, facesOf, tetFaces, wedgeFaces, hexFaces, outer, inside, outside, splits, outsides}
+use Rattle.simplexes.specs.Demand3.{Cell, Proper, AllProper, Distinct, OnceOrTwice, tetFaces, wedgeFaces, hexFaces, outer, inside, outside, splits, outsides}
 use Rattle.simplexes.proofs.Laws.{and-left, and-right, below-at, all}
 use Rattle.simplexes.proofs.KindTest.{fours}
 use Rattle.simplexes.proofs.Winding.{count-append}

@@ -1,19 +1,19 @@
 -- Demand 3 for one cell of any kind that passes the test: what holds of its corners holds of any distinct ids.
 use mathlib.Core.Path.{_≡_, refl, sym, _∙_, ap, subst}
-use mathlib.Core.Bool.{Bool, true, false, cond, _&&_, _||_, not, Bool·beq}
+use mathlib.Core.Bool.{Bool, true, false, cond, _&&_, _||_, Bool·beq}
 use mathlib.Core.List.{List, [], _∷_, _++_, map}
-use Prim.Native.Nat.{ℕ, zero, suc, _+_, _-_, _≤_, _<_}
+use Prim.Native.Nat.{ℕ, suc, _+_, _-_, _≤_, _<_}
 use native.Mathlib.Nat.{not-suc-le-zero}
 use native.Mathlib.Omega.{arith}
 use lib.Dec.{T, eqb, ltb, eqb→eq, ltb→lt}
 use borrow.Author.Tests.{ltb-true, ltb-false, lt-ltb, le-ltb}
 use lib.ListN.{getD, length, length-map}
-use lib.IntN.{ℤ, pos, negsuc, subℕ}
+use lib.IntN.{pos, negsuc, subℕ}
 use Rattle.base.specs.Kinds.{separator}
 use Rattle.base.specs.Gather.{pick}
 use Rattle.base.proofs.Picks.{within-default}
 use Rattle.simplexes.specs.Smallest.{smallestPos, firstDiagonal, onFirst}
-use Rattle.simplexes.specs.Triangle.{Tri, tri, flip, count, total, tetTris, cutFace, faceTris}
+use Rattle.simplexes.specs.Triangle.{Tri, flip, count, tetTris, cutFace}
 use Rattle.simplexes.specs.Demand3.{Distinct, outer}
 use Rattle.simplexes.proofs.Laws.{and-left, and-right, below, below-at, all, all-at, mem, sub, mem-at, getD-mem, getD-map}
 use Rattle.simplexes.proofs.KindTest.{fours, cancels, once, inTris, good, allBits, onDiag, rep, bitBy, outerBy, proper, turned, covered, faceTest, kindTest}

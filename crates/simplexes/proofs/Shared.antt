@@ -2,22 +2,22 @@
 -- whichever way it runs.
 use mathlib.Core.Path.{_≡_, refl, sym, _∙_, ap, ap₂}
 use mathlib.Core.Bool.{Bool, true, false, cond, not, _&&_, _||_, and-comm, or-comm}
-use mathlib.Core.List.{List, [], _∷_, _++_}
-use Prim.Native.Nat.{ℕ, zero, suc, _+_, _≤_, _<_}
+use mathlib.Core.List.{List, [], _∷_}
+use Prim.Native.Nat.{ℕ, zero, suc, _≤_, _<_}
 use native.Mathlib.Omega.{arith}
 use lib.Dec.{T, T-not, eqb, leb, ltb, ltb→lt}
 use lib.ListN.{getD, length}
-use borrow.Author.Tests.{eq-eqb, eqb-true, leb-true, leb-false, ltb-true, ltb-false, le-leb, lt-leb, lt-ltb, le-ltb}
+use borrow.Author.Tests.{eq-eqb, eqb-true, leb-true, leb-false, le-leb, lt-leb, lt-ltb, le-ltb}
 use Rattle.base.specs.Kinds.{nodesOf, separator}
 use Rattle.base.specs.Gather.{pick}
 use Rattle.base.proofs.Picks.{length-pick, pick-at, within-default}
 use Rattle.simplexes.specs.Smallest.{firstDiagonal}
 use Rattle.simplexes.specs.Triangle.{Tri, tri, same, flip, count, cutFace, faceTris}
-use Rattle.simplexes.specs.Demand3.{Cell, Proper, Distinct, Opposite, reversed, turned, outer, inside, outside, facesOf, faceOf, tetFaces, wedgeFaces, hexFaces}
+use Rattle.simplexes.specs.Demand3.{Cell, Proper, Distinct, Opposite, reversed, turned, outer, inside, facesOf, faceOf, tetFaces, wedgeFaces, hexFaces}
 use Rattle.simplexes.proofs.Laws.{and-left, and-right, or-else, all}
 use Rattle.simplexes.proofs.NoSlit.{cell-whole, outer-once}
 use Rattle.simplexes.proofs.Least.{by-comparisons}
-use Rattle.simplexes.proofs.Winding.{bit, rot, same-rot, same-flip, count-append}
+use Rattle.simplexes.proofs.Winding.{bit, same-rot, same-flip, count-append}
 
 -- neighbours on the cycle differ
 pub record Apart (a b c d : ℕ) : Type 0 where

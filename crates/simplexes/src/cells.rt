@@ -137,7 +137,7 @@ fn quad_corners(ids: &[u64]) -> [u8; 6]
     }
 }
 
-// The segment's corners: the smallest first, if it is a corner.
+// The segment's corners: 01 if the smallest of all its nodes stands at 0, else 10.
 fn seg_corners(ids: &[u64]) -> [u8; 2]
     ensures { λ r. ⌜ r ≡ corners 2 (segRows (eqb (smallestPos (now (ids .entry))) 0)) ⌝ }
 {

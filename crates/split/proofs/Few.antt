@@ -1,5 +1,5 @@
 -- The split of any cell is few simplexes of few nodes, so that its text is short.
-use mathlib.Core.Path.{_≡_, refl, ap}
+use mathlib.Core.Path.{_≡_, refl}
 use mathlib.Core.Bool.{Bool, true, false, cond}
 use mathlib.Core.List.{List, []}
 use Prim.Native.Nat.{ℕ, _*_, _≤_, _<_, min}
@@ -8,7 +8,6 @@ use lib.Dec.{eqb, leb, leb→le}
 use lib.ListN.{length, getD, replicate}
 use borrow.Author.Tests.{eqb-true, eqb-false}
 use Rattle.base.specs.Kinds.{nodesOf}
-use Rattle.base.specs.Outcome.{refused, given}
 use Rattle.base.specs.declared.refusals.Answer.{Answer}
 use Rattle.base.proofs.Settle.{settle-refuses, settle-gives}
 use Rattle.simplexes.specs.Smallest.{smallestPos, firstDiagonal}
@@ -58,11 +57,8 @@ pub record Few (answer : Answer) : Type 0 where
 
 pub split-few : (kind : ℕ) (ids : List ℕ) → Few (toSimplexes kind ids (replicate 24 0) .answer)
 unfolding toSimplexes nodesOf
-split-few kind ids = go (eqb why 0) refl
+split-few kind ids = go (eqb (splitRefusal kind ids) 0) refl
   where
-    why : ℕ
-    why = splitRefusal kind ids
-
     go : (b : Bool) → eqb (splitRefusal kind ids) 0 ≡ b → Few (toSimplexes kind ids (replicate 24 0) .answer)
     go true e =
         rw (settle-gives (splitRefusal kind ids) (splitKind kind) (splitCount kind ids) (split kind ids) (replicate 24 0) (eqb-true _ 0 e) (split-most kind ids))

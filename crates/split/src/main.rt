@@ -4,6 +4,7 @@ ghost use Prim.Native.Nat.{_+_, _-_, _%_, _<_, _≤_};
 ghost use lib.ListN.{drop, length, take};
 ghost use Rattle.records.specs.Frame.{frameAt};
 ghost use Rattle.records.specs.Place.{Written};
+ghost use Rattle.split.specs.State.{Countable, Counted, Sound};
 ghost use Rattle.split.specs.Text.{cellText, splitText};
 use base::refusals::Answer;
 use base::refusals::Refusal;
@@ -15,6 +16,12 @@ use records::text::put_end;
 use records::text::put_record;
 use records::wire::read_ids;
 use simplexes::to_simplexes;
+
+// Either buffer; a record and the text of a record fit twice over.
+type Buffer = [u8; 65536];
+
+// The ids of the longest record.
+type Ids = [u64; 4096];
 
 // What is in hand between two steps.
 struct State {
@@ -36,8 +43,8 @@ struct State {
 impl State {
     // The longest text of a record: a header line of 63 bytes and six lines of 105.
     const LONGEST_TEXT: usize = 693;
-    // The size of either buffer, above which no record or text of one is long.
-    const BUFFER: usize = 65536;
+    // The output is written out where it holds more than this.
+    const FULL: usize = 65536 - State::LONGEST_TEXT;
 }
 
 fn main() {
@@ -48,7 +55,7 @@ fn main() {
 
 // A proved loop has to end, and nothing says that the input does, so the steps are counted down
 // from a number that no run uses up.
-fn run(input: &mut [u8; 65536], output: &mut [u8; 65536]) {
+fn run(input: &mut Buffer, output: &mut Buffer) {
     let mut ids = [0u64; 4096];
     let mut state = State {
         from: 0,
@@ -68,7 +75,7 @@ fn run(input: &mut [u8; 65536], output: &mut [u8; 65536]) {
 }
 
 // The last line, and all that is not written yet.
-fn finish(state: State, output: &mut [u8; 65536])
+fn finish(state: State, output: &mut Buffer)
     requires { ⌜ state .used ≤ 65536 ⌝ }
 {
     let ready = with_room(state, output);
@@ -81,14 +88,9 @@ fn finish(state: State, output: &mut [u8; 65536])
 }
 
 // One record, one read, or the end.
-fn step(
-    state: State,
-    input: &mut [u8; 65536],
-    ids: &mut [u64; 4096],
-    output: &mut [u8; 65536],
-) -> State
-    requires { ⌜ (state .from ≤ state .to) × (state .to ≤ 65536) × (state .used ≤ 65536) × (state .begun < 18446744073709551615) ⌝ }
-    ensures { λ r. ⌜ (r .from ≤ r .to) × (r .to ≤ 65536) × (r .used ≤ 65536) × (r .begun ≤ state .begun + 1) ⌝ }
+fn step(state: State, input: &mut Buffer, ids: &mut Ids, output: &mut Buffer) -> State
+    requires { ⌜ Sound state × Countable state ⌝ }
+    ensures { λ r. ⌜ Sound r × Counted state r ⌝ }
 {
     let from = state.from;
     let to = state.to;
@@ -114,9 +116,10 @@ fn look(input: &[u8], from: usize, to: usize) -> Frame
     frame_at(&input[0..to], from)
 }
 
-fn stop_or_refill(state: State, input: &mut [u8; 65536]) -> State
-    requires { ⌜ (state .from ≤ state .to) × (state .to ≤ 65536) × (state .used ≤ 65536) ⌝ }
-    ensures { λ r. ⌜ (r .from ≤ r .to) × (r .to ≤ 65536) × (r .used ≤ 65536) × (r .begun ≡ state .begun) ⌝ }
+// Bytes that end between two records: the input's end, or a read is due.
+fn stop_or_refill(state: State, input: &mut Buffer) -> State
+    requires { ⌜ Sound state ⌝ }
+    ensures { λ r. ⌜ Sound r × (r .begun ≡ state .begun) ⌝ }
 {
     if state.ended {
         return stopped(state);
@@ -124,9 +127,10 @@ fn stop_or_refill(state: State, input: &mut [u8; 65536]) -> State
     refill(state, input)
 }
 
-fn refuse_or_refill(state: State, input: &mut [u8; 65536], output: &mut [u8; 65536]) -> State
-    requires { ⌜ (state .from ≤ state .to) × (state .to ≤ 65536) × (state .used ≤ 65536) × (state .begun < 18446744073709551615) ⌝ }
-    ensures { λ r. ⌜ (r .from ≤ r .to) × (r .to ≤ 65536) × (r .used ≤ 65536) × (r .begun ≤ state .begun + 1) ⌝ }
+// Bytes that end within a record: it is cut short, or a read is due.
+fn refuse_or_refill(state: State, input: &mut Buffer, output: &mut Buffer) -> State
+    requires { ⌜ Sound state × Countable state ⌝ }
+    ensures { λ r. ⌜ Sound r × Counted state r ⌝ }
 {
     if state.ended {
         return refuse(state, output);
@@ -134,6 +138,7 @@ fn refuse_or_refill(state: State, input: &mut [u8; 65536], output: &mut [u8; 655
     refill(state, input)
 }
 
+// The state with no more to do.
 fn stopped(state: State) -> State
     ensures { λ r. ⌜ (r .from ≡ state .from) × (r .to ≡ state .to) × (r .used ≡ state .used) × (r .begun ≡ state .begun) ⌝ }
 {
@@ -143,9 +148,9 @@ fn stopped(state: State) -> State
 }
 
 // The bytes in hand to the front of the input, and one read behind them.
-fn refill(state: State, input: &mut [u8; 65536]) -> State
-    requires { ⌜ (state .from ≤ state .to) × (state .to ≤ 65536) × (state .used ≤ 65536) ⌝ }
-    ensures { λ r. ⌜ (r .from ≤ r .to) × (r .to ≤ 65536) × (r .used ≤ 65536) × (r .begun ≡ state .begun) ⌝ }
+fn refill(state: State, input: &mut Buffer) -> State
+    requires { ⌜ Sound state ⌝ }
+    ensures { λ r. ⌜ Sound r × (r .begun ≡ state .begun) ⌝ }
 {
     let from = state.from;
     let to = state.to;
@@ -166,7 +171,7 @@ fn refill(state: State, input: &mut [u8; 65536]) -> State
 }
 
 // The bytes from..to to the front.
-fn shift(bytes: &mut [u8; 65536], from: usize, to: usize)
+fn shift(bytes: &mut Buffer, from: usize, to: usize)
     requires { ⌜ (from ≤ to) × (to ≤ 65536) ⌝ }
 {
     let mut i = from;
@@ -187,9 +192,9 @@ fn read_behind(bytes: &mut [u8], at: usize) -> usize
 }
 
 // A record that is cut short or odd gets its line and ends the run.
-fn refuse(state: State, output: &mut [u8; 65536]) -> State
-    requires { ⌜ (state .from ≤ state .to) × (state .to ≤ 65536) × (state .used ≤ 65536) × (state .begun < 18446744073709551615) ⌝ }
-    ensures { λ r. ⌜ (r .from ≤ r .to) × (r .to ≤ 65536) × (r .used ≤ 65536) × (r .begun ≤ state .begun + 1) ⌝ }
+fn refuse(state: State, output: &mut Buffer) -> State
+    requires { ⌜ Sound state × Countable state ⌝ }
+    ensures { λ r. ⌜ Sound r × Counted state r ⌝ }
 {
     let ready = with_room(state, output);
     let used = ready.used;
@@ -208,15 +213,15 @@ fn refuse(state: State, output: &mut [u8; 65536]) -> State
 fn print_record(
     state: State,
     kind: u64,
-    input: &[u8; 65536],
+    input: &Buffer,
     start: usize,
     next: usize,
-    ids: &mut [u64; 4096],
-    output: &mut [u8; 65536],
+    ids: &mut Ids,
+    output: &mut Buffer,
 ) -> State
-    requires { ⌜ (next ≤ state .to) × (state .to ≤ 65536) × (state .used ≤ 65536) × (state .begun < 18446744073709551615) ⌝ }
+    requires { ⌜ Sound state × Countable state × (next ≤ state .to) ⌝ }
     requires { ⌜ (start ≤ next) × (next ≤ start + 32768) × ((next - start) % 8 ≡ 0) ⌝ }
-    ensures { λ r. ⌜ (r .from ≤ r .to) × (r .to ≤ 65536) × (r .used ≤ 65536) × (r .begun ≤ state .begun + 1) ⌝ }
+    ensures { λ r. ⌜ Sound r × Counted state r ⌝ }
 {
     let ready = with_room(state, output);
     let used = ready.used;
@@ -226,7 +231,7 @@ fn print_record(
 
 // The state behind a record whose text was put.
 fn printed(state: State, from: usize, used: usize) -> State
-    requires { ⌜ state .begun < 18446744073709551615 ⌝ }
+    requires { ⌜ Countable state ⌝ }
     ensures { λ r. ⌜ (r .from ≡ from) × (r .to ≡ state .to) × (r .used ≡ used) × (r .begun ≡ state .begun + 1) ⌝ }
 {
     State {
@@ -272,12 +277,12 @@ fn put_cell(number: u64, kind: u64, ids: &[u64], output: &mut [u8], at: usize) -
 }
 
 // Writes the output out where the text of a record might not fit any more.
-fn with_room(state: State, output: &[u8; 65536]) -> State
+fn with_room(state: State, output: &Buffer) -> State
     requires { ⌜ state .used ≤ 65536 ⌝ }
     ensures { λ r. ⌜ (r .from ≡ state .from) × (r .to ≡ state .to) × (r .used + 693 ≤ 65536) × (r .begun ≡ state .begun) ⌝ }
 {
     let used = state.used;
-    if used <= State::BUFFER - State::LONGEST_TEXT {
+    if used <= State::FULL {
         return state;
     }
     let mut ready = state;

@@ -1,15 +1,14 @@
 -- The claims on winding, of the answers themselves.
-use mathlib.Core.Path.{_≡_, refl, sym, ap, ap₂, _∙_}
+use mathlib.Core.Path.{_≡_, refl, ap, _∙_}
 use mathlib.Core.Bool.{Bool, true, false, cond, false≢true}
 use mathlib.Core.List.{List, [], _∷_, _++_, map, reverse, reverse-cons, reverse-reverse}
 use Prim.Native.Nat.{ℕ, _+_}
-use native.Mathlib.Nat.{add-zero, add-assoc, add-comm}
 use native.Mathlib.Omega.{arith}
 use lib.Dec.{T, eqb}
 use lib.Ieee.{Float, lt}
 use borrow.Author.Tests.{eqb-true, ne-eqb}
 use Rattle.base.specs.Kinds.{separator}
-use Rattle.faces.specs.Faces.{Runs, onto, runs, lead, full, faces}
+use Rattle.faces.specs.Faces.{onto, runs, lead, full, faces}
 use Rattle.winding.specs.Turn.{turned}
 use Rattle.winding.specs.Plane.{zero64, signedArea2, woundInPlane}
 use Rattle.winding.specs.Reference.{referenceOf}

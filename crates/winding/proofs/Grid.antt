@@ -1,22 +1,22 @@
 -- On whole coordinates of size at most 2^20 and at most 4,096 nodes every product, difference and sum is exact, so the rounded sum
 -- is below zero exactly where the sum in whole numbers is.
-use mathlib.Core.Path.{_≡_, refl, sym, ap, ap₂, _∙_, subst}
+use mathlib.Core.Path.{_≡_, refl, sym, ap, _∙_, subst}
 use mathlib.Core.List.{List, [], _∷_}
-use mathlib.Core.Bool.{Bool, true, false, not, _&&_, cond}
+use mathlib.Core.Bool.{Bool, true, false, _&&_, cond}
 use Prim.Native.Nat.{ℕ, zero, suc, _+_, _-_, _*_, _/_, _%_, _^_, _≤_, _<_, zero-le, min}
-use native.Mathlib.Nat.{le-refl, le-trans, le-of-eq, le-of-lt, lt-of-lt-of-le, lt-of-le-of-lt, zero-lt-suc, zero-add, add-zero, mul-one, mul-le-mul, mul-le-mul-right, add-comm, add-le-add, mod-lt, div-add-mod'}
-use native.Mathlib.Numerals.{add-one}
+use native.Mathlib.Nat.{le-refl, le-trans, le-of-eq, zero-add, add-zero, mul-one, mul-le-mul, add-comm, add-le-add, div-add-mod'}
 use native.Mathlib.Omega.{arith}
 use lib.IntN.{ℤ, pos, negsuc, negℤ, natAbs, subℕ, _+ℤ_, _-ℤ_, _*ℤ_}
-use lib.ListN.{length, getD}
-use lib.Dec.{T, ltb, leb, eqb, ltb→lt, nltb→le, leb→le, eqb→eq, lit≤}
-use lib.Ieee.{Float, nan, inf, fin, binary64, up, down, add, sub, mul, div, lt, toSigned}
+use lib.ListN.{length}
+use lib.Dec.{T, ltb, leb, eqb, ltb→lt, leb→le, eqb→eq, lit≤}
+use lib.Ieee.{Float, nan, inf, fin, binary64, up, down, sub, mul, lt, toSigned}
 use lib.Ieee.Fits.{and-l, and-r}
 use lib.Ieee.Exact.{HasValue}
-use Rattle.faces.specs.Edges.{Edge, edge, along, cycle}
+use Rattle.base.specs.Kinds.{elementLimit}
+use Rattle.faces.specs.Edges.{Edge, along, cycle}
 use Rattle.winding.specs.Plane.{zero64, areaFrom, signedArea2}
-use Rattle.winding.specs.Exact.{smallWhole, xOf, yOf, onGrid, wholeOf, exactCross, exactFrom, exactSum, negative}
-use Rattle.winding.proofs.Whole.{Means, signed, add-means, sub-means, mul-means, zero-means, half-negative}
+use Rattle.winding.specs.Exact.{gridLimit, smallWhole, xOf, yOf, onGrid, wholeOf, exactCross, exactFrom, exactSum, negative}
+use Rattle.winding.proofs.Whole.{Means, add-means, sub-means, mul-means, zero-means, half-negative}
 
 -- ---- sizes of integers
 
@@ -55,50 +55,57 @@ abs-add (negsuc a) (negsuc b) = both a b
 
 -- ---- a whole coordinate
 
-whole-means : (x : Float) → T (smallWhole x) → Means x (wholeOf x) × (natAbs (wholeOf x) ≤ 2 ^ 20)
+whole-means : (x : Float) → T (smallWhole x) → Means x (wholeOf x) × (natAbs (wholeOf x) ≤ gridLimit)
 unfolding toSigned
 whole-means nan t = absurd t
 whole-means (inf s) t = absurd t
-whole-means (fin s m e) t = at s (m * up e / down e) (leb→le _ _ (and-r (eqb (m * up e % down e) 0) (leb (m * up e / down e) (2 ^ 20)) t)) (
-  refl,
-  mul-one (m * up e) ∙ sym (div-add-mod' (m * up e) (down e)) ∙ ap (λ (k : ℕ). m * up e / down e * down e + k) (eqb→eq _ _ (and-l (eqb (m * up e % down e) 0) (leb (m * up e / down e) (2 ^ 20)) t)) ∙ add-zero _,
-)
+whole-means (fin s m e) t =
+    at s (m * up e / down e) (leb→le _ _ (and-r (eqb (m * up e % down e) 0) (leb (m * up e / down e) gridLimit) t)) (
+      refl,
+      mul-one (m * up e) ∙ sym (div-add-mod' (m * up e) (down e))
+          ∙ ap (λ (k : ℕ). m * up e / down e * down e + k) (eqb→eq _ _ (and-l (eqb (m * up e % down e) 0) (leb (m * up e / down e) gridLimit) t))
+          ∙ add-zero _,
+    )
   where
-    low-cap : (c : ℕ) → c ≤ 2 ^ 20 → min c (2 ^ 63) ≡ c
+    low-cap : (c : ℕ) → c ≤ gridLimit → min c (2 ^ 63) ≡ c
     low-cap c h = omega arith
 
-    high-cap : (c : ℕ) → c ≤ 2 ^ 20 → min c (2 ^ 63 - 1) ≡ c
+    high-cap : (c : ℕ) → c ≤ gridLimit → min c (2 ^ 63 - 1) ≡ c
     high-cap c h = omega arith
 
-    at : (u : Bool) (c : ℕ) → c ≤ 2 ^ 20 → HasValue (fin s m e) u c 1
-        → Means (fin s m e) (cond u (negℤ (pos (min c (2 ^ 63)))) (pos (min c (2 ^ 63 - 1)))) × (natAbs (cond u (negℤ (pos (min c (2 ^ 63)))) (pos (min c (2 ^ 63 - 1)))) ≤ 2 ^ 20)
+    at : (u : Bool) (c : ℕ) → c ≤ gridLimit → HasValue (fin s m e) u c 1
+        → Means (fin s m e) (cond u (negℤ (pos (min c (2 ^ 63)))) (pos (min c (2 ^ 63 - 1)))) × (natAbs (cond u (negℤ (pos (min c (2 ^ 63)))) (pos (min c (2 ^ 63 - 1)))) ≤ gridLimit)
     at true c h v = (
       record { sign = true; size = c; value = v; is = ap (λ (k : ℕ). negℤ (pos k)) (sym (low-cap c h)) },
-      subst (λ (k : ℕ). natAbs (negℤ (pos k)) ≤ 2 ^ 20) (sym (low-cap c h)) (le-trans (le-of-eq (abs-neg (pos c))) h),
+      subst (λ (k : ℕ). natAbs (negℤ (pos k)) ≤ gridLimit) (sym (low-cap c h)) (le-trans (le-of-eq (abs-neg (pos c))) h),
     )
     at false c h v = (
       record { sign = false; size = c; value = v; is = ap pos (sym (high-cap c h)) },
-      subst (λ (k : ℕ). k ≤ 2 ^ 20) (sym (high-cap c h)) h,
+      subst (λ (k : ℕ). k ≤ gridLimit) (sym (high-cap c h)) h,
     )
 
 -- ---- an edge
 
-product-small : (a b : ℤ) → natAbs a ≤ 2 ^ 20 → natAbs b ≤ 2 ^ 20 → natAbs (a *ℤ b) ≤ 2 ^ 40
+-- the most that an edge adds
+abbrev most : ℕ
+most = gridLimit * gridLimit + gridLimit * gridLimit
+
+product-small : (a b : ℤ) → natAbs a ≤ gridLimit → natAbs b ≤ gridLimit → natAbs (a *ℤ b) ≤ gridLimit * gridLimit
 product-small a b p q = le-trans (le-of-eq (abs-mul a b)) (mul-le-mul p q)
 
-difference-small : (a b : ℤ) → natAbs a ≤ 2 ^ 40 → natAbs b ≤ 2 ^ 40 → natAbs (a -ℤ b) ≤ 2 ^ 41
+difference-small : (a b : ℤ) → natAbs a ≤ gridLimit * gridLimit → natAbs b ≤ gridLimit * gridLimit → natAbs (a -ℤ b) ≤ most
 difference-small a b p q = le-trans (abs-add a (negℤ b)) (add-le-add p (le-trans (le-of-eq (abs-neg b)) q))
 
 cross-means : (x0 y0 x1 y1 : Float) → T (smallWhole x0) → T (smallWhole y0) → T (smallWhole x1) → T (smallWhole y1)
-    → Means (sub binary64 (mul binary64 x0 y1) (mul binary64 x1 y0)) (wholeOf x0 *ℤ wholeOf y1 -ℤ wholeOf x1 *ℤ wholeOf y0) × (natAbs (wholeOf x0 *ℤ wholeOf y1 -ℤ wholeOf x1 *ℤ wholeOf y0) ≤ 2 ^ 41)
+    → Means (sub binary64 (mul binary64 x0 y1) (mul binary64 x1 y0)) (wholeOf x0 *ℤ wholeOf y1 -ℤ wholeOf x1 *ℤ wholeOf y0) × (natAbs (wholeOf x0 *ℤ wholeOf y1 -ℤ wholeOf x1 *ℤ wholeOf y0) ≤ most)
 cross-means x0 y0 x1 y1 p q r s =
     let a = whole-means x0 p in
     let b = whole-means y0 q in
     let c = whole-means x1 r in
     let d = whole-means y1 s in
-    let m : natAbs (wholeOf x0 *ℤ wholeOf y1) ≤ 2 ^ 40 = product-small (wholeOf x0) (wholeOf y1) (a .1) (d .1) in
-    let n : natAbs (wholeOf x1 *ℤ wholeOf y0) ≤ 2 ^ 40 = product-small (wholeOf x1) (wholeOf y0) (c .1) (b .1) in
-    let o : natAbs (wholeOf x0 *ℤ wholeOf y1 -ℤ wholeOf x1 *ℤ wholeOf y0) ≤ 2 ^ 41 = difference-small (wholeOf x0 *ℤ wholeOf y1) (wholeOf x1 *ℤ wholeOf y0) m n in (
+    let m : natAbs (wholeOf x0 *ℤ wholeOf y1) ≤ gridLimit * gridLimit = product-small (wholeOf x0) (wholeOf y1) (a .1) (d .1) in
+    let n : natAbs (wholeOf x1 *ℤ wholeOf y0) ≤ gridLimit * gridLimit = product-small (wholeOf x1) (wholeOf y0) (c .1) (b .1) in
+    let o : natAbs (wholeOf x0 *ℤ wholeOf y1 -ℤ wholeOf x1 *ℤ wholeOf y0) ≤ most = difference-small (wholeOf x0 *ℤ wholeOf y1) (wholeOf x1 *ℤ wholeOf y0) m n in (
       sub-means (mul binary64 x0 y1) (mul binary64 x1 y0) (wholeOf x0 *ℤ wholeOf y1) (wholeOf x1 *ℤ wholeOf y0)
           (mul-means x0 y1 (wholeOf x0) (wholeOf y1) (a .0) (d .0) (le-trans m (lit≤ tt)))
           (mul-means x1 y0 (wholeOf x1) (wholeOf y0) (c .0) (b .0) (le-trans n (lit≤ tt)))
@@ -144,25 +151,26 @@ module _ (points : List Float) where
 
   -- ---- the sum
 
-  step : (a b k : ℕ) → a ≤ k * 2 ^ 41 → b ≤ 2 ^ 41 → a + b ≤ suc k * 2 ^ 41
+  step : (a b k : ℕ) → a ≤ k * most → b ≤ most → a + b ≤ suc k * most
   step a b k p q = omega arith
 
-  within : (a k : ℕ) → a ≤ k * 2 ^ 41 → k ≤ 4096 → a ≤ 2 ^ 53
+  within : (a k : ℕ) → a ≤ k * most → k ≤ elementLimit → a ≤ 2 ^ 53
   within a k p q = omega arith
 
-  sum-means : (es : List Edge) (sum : Float) (z : ℤ) (k : ℕ) → AllGood es → Means sum z → natAbs z ≤ k * 2 ^ 41 → k + length es ≤ 4096
+  sum-means : (es : List Edge) (sum : Float) (z : ℤ) (k : ℕ) → AllGood es → Means sum z → natAbs z ≤ k * most
+      → k + length es ≤ elementLimit
       → Means (areaFrom points sum es) (exactFrom points z es) × (natAbs (exactFrom points z es) ≤ 2 ^ 53)
   unfolding areaFrom exactFrom
   sum-means [] sum z k g m b l = (m, within (natAbs z) k b (le-trans (le-of-eq (sym (add-zero k))) l))
   sum-means (e ∷ es) sum z k g m b l =
       let c = cross-means (xOf points (e .from)) (yOf points (e .from)) (xOf points (e .to)) (yOf points (e .to))
       (g .0 .0 .0) (g .0 .0 .1) (g .0 .1 .0) (g .0 .1 .1) in
-      let d : natAbs (z +ℤ exactCross points e) ≤ suc k * 2 ^ 41 =
+      let d : natAbs (z +ℤ exactCross points e) ≤ suc k * most =
       le-trans (abs-add z (exactCross points e)) (step (natAbs z) (natAbs (exactCross points e)) k b (c .1)) in
-      let few : suc k ≤ 4096 = omega arith in
+      let few : suc k ≤ elementLimit = omega arith in
       sum-means es _ _ (suc k) (g .1) (add-means sum _ z (exactCross points e) m (c .0) (within _ (suc k) d few)) d (omega arith)
 
-  pub area-exact : (ids : List ℕ) → length ids ≤ 4096 → T (onGrid points ids)
+  pub area-exact : (ids : List ℕ) → length ids ≤ elementLimit → T (onGrid points ids)
       → lt (signedArea2 points ids) zero64 ≡ negative (exactSum points ids)
   unfolding signedArea2 exactSum
   area-exact ids l t =

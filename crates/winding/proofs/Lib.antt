@@ -2,6 +2,7 @@
 pub mod Points
 pub mod Round
 pub mod Turned
+pub mod Parts
 pub mod Rising
 pub mod Joined
 pub mod Written

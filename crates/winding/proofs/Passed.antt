@@ -1,17 +1,16 @@
 -- What holds of an input that `reorient` does not refuse, and how long its answer is.
 use mathlib.Core.Path.{_≡_, refl, sym, ap, _∙_}
 use mathlib.Core.Bool.{Bool, true, false, cond, not, _&&_, _||_, false≢true}
-use mathlib.Core.List.{List, map}
-use Prim.Native.Nat.{ℕ, _+_, _≤_}
+use mathlib.Core.List.{List}
+use Prim.Native.Nat.{ℕ, _≤_}
 use native.Mathlib.Nat.{le-of-eq, zero-add}
-use native.Mathlib.Omega.{arith}
 use lib.Dec.{eqb}
-use lib.ListN.{length, drop}
+use lib.ListN.{length}
 use lib.Seq.{paste, take-all}
 use lib.Ieee.{Float, lt}
-use borrow.Author.Tests.{eqb-true, eqb-false, ne-eqb, eq-eqb}
+use borrow.Author.Tests.{eqb-true, eqb-false, ne-eqb}
 use Rattle.base.specs.Kinds.{elementLimit}
-use Rattle.base.specs.Checks.{elementRefusal, strays, holdsSeparator}
+use Rattle.base.specs.Checks.{elementRefusal, strays}
 use Rattle.base.specs.Outcome.{overwrite}
 use Rattle.base.proofs.Accepted.{element-accepted}
 use Rattle.base.proofs.Tests.{and-true}

@@ -1,5 +1,5 @@
 -- A walk over the edges of a cycle: from a place on they are the edge to the next node, and those from the next place on.
-use mathlib.Core.Path.{_≡_, refl, sym, _∙_}
+use mathlib.Core.Path.{_≡_}
 use Prim.Native.Nat.{ℕ, _+_, _<_, _≤_}
 use native.Mathlib.Numerals.{add-one}
 use native.Mathlib.Nat.{add-zero}
@@ -10,7 +10,7 @@ use lib.ListN.{length, getD, drop, drop-of-length-le}
 use lib.Seq.{drop-cons, getD-drop}
 use Rattle.base.specs.Kinds.{separator}
 use Rattle.base.proofs.Picks.{within-default}
-use Rattle.faces.specs.Edges.{Edge, edge, along, cycle}
+use Rattle.faces.specs.Edges.{edge, along}
 use Rattle.winding.specs.Points.{Placed}
 use Rattle.winding.proofs.Points.{less}
 

@@ -2,13 +2,13 @@
 use mathlib.Core.Path.{_≡_, refl, sym, ap, ap₂, _∙_, subst}
 use mathlib.Core.Logic.{_⊎_, inl, inr}
 use Prim.Native.Nat.{ℕ, zero, suc, _+_, _-_, _*_, _^_, _≤_, _<_}
-use native.Mathlib.Nat.{le-refl, le-trans, le-of-eq, le-of-lt, lt-of-lt-of-le, eq-or-lt-of-le, zero-lt-suc, zero-mul, mul-zero, add-zero, mul-one, mul-comm, mul-assoc, mul-right-comm, mul-mul-mul-comm, add-mul, mul-pos, lt-of-mul-lt-mul-right, le-of-mul-le-mul-right, mul-sub, sub-add-cancel, sub-eq-zero-of-le}
+use native.Mathlib.Nat.{le-trans, le-of-eq, le-of-lt, lt-of-lt-of-le, eq-or-lt-of-le, zero-lt-suc, zero-mul, mul-zero, mul-one, mul-comm, mul-assoc, mul-mul-mul-comm, add-mul, mul-pos, lt-of-mul-lt-mul-right, le-of-mul-le-mul-right, mul-sub, sub-add-cancel, sub-eq-zero-of-le}
 use native.Mathlib.Omega.{arith}
-use mathlib.Core.Bool.{Bool, true, false, not, _&&_, Bool·beq, cond, true≢false, false≢true}
-use lib.IntN.{ℤ, pos, negsuc, negℤ, natAbs, _+ℤ_, _-ℤ_, _*ℤ_, +ℤ-comm, +ℤ-negℤ-cancel, negℤ-+ℤ, negℤ-negℤ}
-use lib.Dec.{T, ltb, eqb, ltb→lt, nltb→le, lit≤, lit<, leb·suc-zero}
-use lib.Pow.{pow-pos, shl-lt}
-use lib.Ieee.{Float, nan, inf, fin, Format, binary64, prec, low, up, down, unlike, round, neg, sum, add, sub, mul, div, lt}
+use mathlib.Core.Bool.{Bool, true, false, not, cond, true≢false, false≢true}
+use lib.IntN.{ℤ, pos, negℤ, natAbs, _+ℤ_, _-ℤ_, _*ℤ_, +ℤ-comm, +ℤ-negℤ-cancel, negℤ-+ℤ, negℤ-negℤ}
+use lib.Dec.{T, ltb, ltb→lt, nltb→le, lit≤, lit<, leb·suc-zero}
+use lib.Pow.{shl-lt}
+use lib.Ieee.{Float, nan, inf, fin, binary64, up, down, unlike, round, neg, sum, add, sub, mul, div, lt}
 use lib.Ieee.Fits.{down-pos}
 use lib.Ieee.Exact.{HasValue, round-exact}
 use lib.Ieee.Scale.{round-same}
@@ -48,7 +48,9 @@ less : (a b : ℕ) → b ≤ a → pos (a - b) ≡ pos a +ℤ negℤ (pos b)
 less a b h = sym (+ℤ-negℤ-cancel (pos (a - b)) (pos b)) ∙ ap (λ (n : ℕ). pos n +ℤ negℤ (pos b)) (sub-add-cancel h)
 
 more : (a b : ℕ) → a ≤ b → negℤ (pos (b - a)) ≡ pos a +ℤ negℤ (pos b)
-more a b h = ap negℤ (less b a h) ∙ negℤ-+ℤ (pos b) (negℤ (pos a)) ∙ ap (λ (z : ℤ). negℤ (pos b) +ℤ z) (negℤ-negℤ (pos a)) ∙ +ℤ-comm (negℤ (pos b)) (pos a)
+more a b h =
+    ap negℤ (less b a h) ∙ negℤ-+ℤ (pos b) (negℤ (pos a)) ∙ ap (λ (z : ℤ). negℤ (pos b) +ℤ z) (negℤ-negℤ (pos a))
+    ∙ +ℤ-comm (negℤ (pos b)) (pos a)
 
 none-left : (u : Bool) (n : ℕ) → (T (not u) → n ≡ 0) → signed u n ≡ negℤ (pos n)
 none-left true n h = refl
@@ -67,7 +69,8 @@ product-sign true true (suc a) (suc b) = refl
 
 -- ---- a fraction that is a whole number is rounded to it
 
-made : (s : Bool) (n c : ℕ) (x : Float) (z : ℤ) → 0 < c → x ≡ round binary64 s (n * c) c → signed s n ≡ z → natAbs z ≤ 2 ^ 53 → Means x z
+made : (s : Bool) (n c : ℕ) (x : Float) (z : ℤ) → 0 < c → x ≡ round binary64 s (n * c) c → signed s n ≡ z → natAbs z ≤ 2 ^ 53
+    → Means x z
 made s n c x z p e is h = record {
   sign = s;
   size = n;
@@ -82,16 +85,21 @@ made s n c x z p e is h = record {
 sub-mul : (a b c : ℕ) → a * c - b * c ≡ (a - b) * c
 sub-mul a b c = ap₂ (λ (x y : ℕ). x - y) (mul-comm a c) (mul-comm b c) ∙ sym (mul-sub c a b) ∙ mul-comm c (a - b)
 
-sum-means : (s t : Bool) (a b c : ℕ) → 0 < c → natAbs (signed s a +ℤ signed t b) ≤ 2 ^ 53 → Means (sum binary64 s (a * c) t (b * c) c) (signed s a +ℤ signed t b)
+sum-means : (s t : Bool) (a b c : ℕ) → 0 < c → natAbs (signed s a +ℤ signed t b) ≤ 2 ^ 53
+    → Means (sum binary64 s (a * c) t (b * c) c) (signed s a +ℤ signed t b)
 unfolding sum
-sum-means false false a b c p h = made false (a + b) c _ _ p (ap (λ (n : ℕ). round binary64 false n c) (sym (add-mul a b c))) (same-sign false a b) h
-sum-means true true a b c p h = made true (a + b) c _ _ p (ap (λ (n : ℕ). round binary64 true n c) (sym (add-mul a b c))) (same-sign true a b) h
+sum-means false false a b c p h =
+    made false (a + b) c _ _ p (ap (λ (n : ℕ). round binary64 false n c) (sym (add-mul a b c))) (same-sign false a b) h
+sum-means true true a b c p h =
+    made true (a + b) c _ _ p (ap (λ (n : ℕ). round binary64 true n c) (sym (add-mul a b c))) (same-sign true a b) h
 sum-means false true a b c p h = go (ltb (a * c) (b * c)) (ltb→lt (a * c) (b * c)) (nltb→le (a * c) (b * c))
   where
     go : (u : Bool) → (T u → a * c < b * c) → (T (not u) → b * c ≤ a * c)
         → Means (cond u (round binary64 true (b * c - a * c) c) (round binary64 false (a * c - b * c) c)) (pos a +ℤ negℤ (pos b))
-    go true l g = made true (b - a) c _ _ p (ap (λ (n : ℕ). round binary64 true n c) (sub-mul b a c)) (more a b (le-of-lt (lt-of-mul-lt-mul-right c (l tt)))) h
-    go false l g = made false (a - b) c _ _ p (ap (λ (n : ℕ). round binary64 false n c) (sub-mul a b c)) (less a b (le-of-mul-le-mul-right (g tt) p)) h
+    go true l g =
+        made true (b - a) c _ _ p (ap (λ (n : ℕ). round binary64 true n c) (sub-mul b a c)) (more a b (le-of-lt (lt-of-mul-lt-mul-right c (l tt)))) h
+    go false l g =
+        made false (a - b) c _ _ p (ap (λ (n : ℕ). round binary64 false n c) (sub-mul a b c)) (less a b (le-of-mul-le-mul-right (g tt) p)) h
 sum-means true false a b c p h = go (ltb (a * c) (b * c)) (ltb→lt (a * c) (b * c)) (nltb→le (a * c) (b * c))
   where
     go : (u : Bool) → (T u → a * c < b * c) → (T (not u) → b * c ≤ a * c)
@@ -138,7 +146,14 @@ unfolding neg
 neg-means nan a p = absurd (p .value)
 neg-means (inf s) a p = absurd (p .value)
 neg-means (fin s m e) a p =
-    record { sign = not (p .sign); size = p .size; value = (ap not (p .value .0), p .value .1); is = sign-off (p .sign) (p .size) ∙ ap negℤ (p .is) }
+    record {
+      sign =
+          not (p .sign);
+      size = p .size;
+      value = (ap not (p .value .0), p .value .1);
+      is = sign-off (p .sign) (p .size)
+          ∙ ap negℤ (p .is);
+    }
 
 pub sub-means : (x y : Float) (a b : ℤ) → Means x a → Means y b → natAbs (a -ℤ b) ≤ 2 ^ 53 → Means (sub binary64 x y) (a -ℤ b)
 unfolding sub
@@ -181,14 +196,16 @@ half-of s n h = go (eq-or-lt-of-le h)
     go (inl e) = subst (λ (k : ℕ). HasValue (round binary64 s k 2) s k 2) (sym e) (half-top s)
     go (inr l) = half-small s n l
 
-at : (s : Bool) (m : ℕ) (e : ℤ) (n : ℕ) → m * up e * 1 ≡ n * down e → n ≤ 2 ^ 53 → HasValue (round binary64 s (m * up e * 1) (2 * down e)) s n 2
+at : (s : Bool) (m : ℕ) (e : ℤ) (n : ℕ) → m * up e * 1 ≡ n * down e → n ≤ 2 ^ 53
+    → HasValue (round binary64 s (m * up e * 1) (2 * down e)) s n 2
 at s m e n h l =
     subst (λ (y : Float). HasValue y s n 2)
     (sym (round-same binary64 s (m * up e * 1) (2 * down e) n 2 (mul-pos (zero-lt-suc 1) (down-pos e)) (zero-lt-suc 1)
     (ap (λ (k : ℕ). k * 2) h ∙ mul-assoc n (down e) 2 ∙ ap (λ (k : ℕ). n * k) (mul-comm (down e) 2))))
     (half-of s n l)
 
-half-value : (s : Bool) (m : ℕ) (e : ℤ) (n : ℕ) → m * up e * 1 ≡ n * down e → n ≤ 2 ^ 53 → HasValue (div binary64 (fin s m e) two64) s n 2
+half-value : (s : Bool) (m : ℕ) (e : ℤ) (n : ℕ) → m * up e * 1 ≡ n * down e → n ≤ 2 ^ 53
+    → HasValue (div binary64 (fin s m e) two64) s n 2
 unfolding div
 half-value true m e n h l = at true m e n h l
 half-value false m e n h l = at false m e n h l

@@ -1,12 +1,12 @@
 -- The loop of `put_faces`: what is written, with what the faces from a place on add to it, is the whole answer.
 use mathlib.Core.Path.{_≡_, refl, sym, ap, ap₂, _∙_}
-use mathlib.Core.List.{List, [], _∷_, _++_, map, append-nil, append-assoc}
+use mathlib.Core.List.{List, [], _++_, map, append-nil, append-assoc}
 use Prim.Native.Nat.{ℕ, _+_, _≤_}
 use native.Mathlib.Omega.{arith}
 use lib.ListN.{length, drop, length-append, length-drop}
 use Rattle.base.specs.Outcome.{overwrite}
 use Rattle.faces.specs.declared.Face.{Face}
-use Rattle.faces.specs.Faces.{faces, lead, part}
+use Rattle.faces.specs.Faces.{faces, part}
 use Rattle.faces.proofs.Walk.{Next, no-more}
 use Rattle.winding.specs.Space.{joined}
 use Rattle.winding.specs.Scan.{piece, splice}

@@ -8,11 +8,15 @@ use lib.ListN.{getD}
 use lib.Ieee.{Float, nan, inf, fin, up, down, toSigned}
 use Rattle.faces.specs.Edges.{Edge, cycle}
 
+-- the largest size of a coordinate
+abbrev pub gridLimit : ℕ
+gridLimit = 2 ^ 20
+
 -- a whole number of size at most 2^20; -0 is one
 abbrev pub smallWhole : Float → Bool
 smallWhole nan = false
 smallWhole (inf s) = false
-smallWhole (fin s m e) = eqb (m * up e % down e) 0 && leb (m * up e / down e) (2 ^ 20)
+smallWhole (fin s m e) = eqb (m * up e % down e) 0 && leb (m * up e / down e) gridLimit
 
 -- the coordinates of an id's point in the plane
 abbrev pub xOf : List Float → ℕ → Float

@@ -26,6 +26,7 @@ addEdge n (Space ax ay az) (Space bx by bz) = record {
   z = add binary64 (n .z) (mul binary64 (sub binary64 ax bx) (add binary64 ay by));
 }
 
+-- that of every edge, added one after another
 unfoldable pub normalFrom : List Float → Vector → List Edge → Vector
 normalFrom points n [] = n
 normalFrom points n (e ∷ es) = normalFrom points (addEdge n (pointAt points 3 (e .from)) (pointAt points 3 (e .to))) es
@@ -67,6 +68,7 @@ looksIn points reference face =
     lt (dotFrom (normalOf points face) (pointAt points 3 (getD face 0 0)) reference)
     (mul binary64 tolerance (scaleOf (normalOf points face)))
 
+-- a face, turned if it looks in
 abbrev pub outward : List Float → Vector → List ℕ → List ℕ
 outward points reference face = turned (looksIn points reference face) face
 

@@ -1,7 +1,7 @@
 -- `count_bricks` meets its contract: before turn i the count is that of the first i bricks.
 use borrow.Author.Needs.{needs}
-use mathlib.Core.Path.{_≡_, refl, sym, _∙_, ap}
-use Prim.Native.Nat.{_+_, _*_, _-_, _≤_}
+use mathlib.Core.Path.{_≡_, refl}
+use Prim.Native.Nat.{_*_, _-_, _≤_}
 use native.Mathlib.Omega.{arith}
 use Rattle.base.specs.Kinds.{nodesOf}
 use Rattle.blocks.specs.Blocks.{cells, counts}

@@ -1,7 +1,6 @@
 -- `has_room` meets its contract: the count is known by arithmetic, bounded by six a brick, or counted.
-use borrow.Author.Needs.{needs}
 use borrow.Author.Tests.{le-leb}
-use mathlib.Core.Path.{_≡_, sym, _∙_, ap}
+use mathlib.Core.Path.{_≡_, sym, ap}
 use Prim.Native.Nat.{ℕ, _*_, _≤_}
 use native.Mathlib.Omega.{arith}
 use lib.Dec.{leb}

@@ -1,5 +1,5 @@
 -- `is_solid` meets its contract: an arm for each of the three kinds.
-use borrow.Author.Tests.{eq-eqb, ne-eqb}
+use borrow.Author.Tests.{ne-eqb}
 use Rattle.blocks.proofs.is_solid.Statement.{statement}
 use Rattle.blocks.proofs.is_solid.Tie as tie
 

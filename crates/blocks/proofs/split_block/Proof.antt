@@ -1,16 +1,16 @@
 -- `split_block` meets its contract: once nothing refuses and there is room, the cells' own answers are written.
 use borrow.Author.Needs.{needs}
 use borrow.Author.Tests.{leb-true, leb-false}
-use mathlib.Core.Path.{_≡_, refl, sym, _∙_, ap, ap₂}
-use Prim.Native.Nat.{ℕ, _*_, _≤_, _<_}
+use mathlib.Core.Path.{_≡_, refl, sym, _∙_, ap}
+use Prim.Native.Nat.{_*_, _≤_, _<_}
 use native.Mathlib.Omega.{arith}
 use lib.Dec.{leb}
 use lib.ListN.{length}
-use Rattle.base.specs.Outcome.{refused, given, overwrite}
+use Rattle.base.specs.Outcome.{refused, given}
 use Rattle.base.proofs.Settle.{settle-refuses, settle-short, settle-gives}
 use Rattle.simplexes.specs.Demand3.{splits}
-use Rattle.blocks.specs.Blocks.{cells, cellsOf, counts, splitBlock, splitBlockRefusal}
-use Rattle.blocks.proofs.Parts.{Taken, taken, Solid, solid-is, four-each}
+use Rattle.blocks.specs.Blocks.{cellsOf, counts, splitBlock, splitBlockRefusal}
+use Rattle.blocks.proofs.Parts.{Taken, taken, solid-is, four-each}
 use Rattle.blocks.proofs.split_block.Statement.{statement}
 use Rattle.blocks.proofs.split_block.Tie as tie
 

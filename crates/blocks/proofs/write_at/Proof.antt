@@ -1,10 +1,10 @@
 -- `write_at` meets its contract: the cell's answer stands in the part that is lent on, and the front is kept.
 use borrow.Author.Needs.{needs}
 use mathlib.Core.Path.{_≡_, _∙_, ap}
-use mathlib.Core.List.{List, _++_}
-use Prim.Native.Nat.{ℕ, _+_, _*_, _-_, _≤_}
+use mathlib.Core.List.{List}
+use Prim.Native.Nat.{ℕ, _+_, _*_, _-_}
 use native.Mathlib.Omega.{arith}
-use lib.ListN.{length, take, drop, length-drop}
+use lib.ListN.{take, drop, length-drop}
 use Rattle.base.specs.Outcome.{overwrite}
 use Rattle.base.proofs.Lists.{rest-whole, rest-back}
 use Rattle.simplexes.specs.Split.{split, splitCount}

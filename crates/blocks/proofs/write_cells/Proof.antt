@@ -1,18 +1,18 @@
 -- `write_cells` meets its contract: before turn i the output holds the tetrahedra of the first i cells, and behind them
 -- what it held at entry.
 use borrow.Author.Needs.{needs}
-use mathlib.Core.Path.{_≡_, refl, sym, _∙_, ap}
-use mathlib.Core.List.{List, _++_}
+use mathlib.Core.Path.{_≡_, refl, _∙_, ap}
+use mathlib.Core.List.{List}
 use Prim.Native.Nat.{ℕ, _+_, _*_, _-_, _≤_}
 use native.Mathlib.Omega.{arith}
-use lib.ListN.{length, take, drop, length-append}
+use lib.ListN.{length}
 use Rattle.base.specs.Kinds.{nodesOf}
 use Rattle.base.specs.Outcome.{overwrite}
-use Rattle.base.proofs.Lists.{overwrite-more, length-overwrite}
-use Rattle.simplexes.specs.Split.{split, splitCount}
+use Rattle.base.proofs.Lists.{length-overwrite}
+use Rattle.simplexes.specs.Split.{split}
 use Rattle.simplexes.specs.Demand3.{splits}
 use Rattle.blocks.specs.Blocks.{cells, counts}
-use Rattle.blocks.proofs.Parts.{Solid, solid-is, splits-more, counts-more, next-room, four-each, four-of-one, cellAt, next-at, next-written, cell-left}
+use Rattle.blocks.proofs.Parts.{solid-is, counts-more, next-room, four-each, four-of-one, cellAt, next-at, next-written, cell-left}
 use Rattle.blocks.proofs.write_cells.Statement.{statement}
 use Rattle.blocks.proofs.write_cells.Tie as tie
 

@@ -1,7 +1,5 @@
 -- `from_poly` meets its contract: each return knows how the tests above it went.
-use Prim.Native.Nat.{_+_, _-_, _≤_}
-use mathlib.Core.Path.{_≡_, refl, sym, ap, _∙_}
-use mathlib.Core.Bool.{not, false, true, _&&_, _||_}
+use mathlib.Core.Path.{refl}
 use borrow.Author.Needs.{needs}
 use borrow.Author.Tests.{eq-eqb, ne-eqb}
 use native.Mathlib.Omega.{arith}
@@ -15,7 +13,11 @@ returns : tie.Need-returns
 unfolding fromPoly
 returns c =
     let e = c .before .before in
-    rw (← e .element-refusal .ensures, or-else-first _ _ (c .before .if1 .taken), settle-refuses _ _ _ _ _ (c .before .if1 .taken))
+    rw (
+      ← e .element-refusal .ensures,
+      or-else-first _ _ (c .before .if1 .taken),
+      settle-refuses _ _ _ _ _ (c .before .if1 .taken),
+    )
     (record { answered = c .refused .ensures; left = refl })
 
 write-found-requires : tie.Need-write-found-requires
@@ -96,4 +98,6 @@ returns-5 c =
 pub from-poly-spec : {M : Type 1} → statement M
 from-poly-spec =
     tie.close
-    (tie.spec (λ c κs. search needs) (λ c κs. search needs) returns (λ c κs. search needs) write-found-requires (λ c. search needs) returns-2 (λ c κs. search needs) (λ c κs. search needs) returns-3 (λ c κs. search needs) returns-4 copy-requires (λ c κs. search needs) (λ c. search needs) returns-5)
+    (tie.spec (λ c κs. search needs) (λ c κs. search needs) returns (λ c κs. search needs) write-found-requires
+    (λ c. search needs) returns-2 (λ c κs. search needs) (λ c κs. search needs) returns-3 (λ c κs. search needs)
+    returns-4 copy-requires (λ c κs. search needs) (λ c. search needs) returns-5)

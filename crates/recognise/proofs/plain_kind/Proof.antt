@@ -14,15 +14,29 @@ returns-2 c = simp (eq-eqb _ _ (c .before .if1 .taken), ne-eqb _ _ (c .if2 .left
 
 returns-3 : tie.Need-returns-3
 unfolding plainKind
-returns-3 c = simp (ne-eqb _ _ (c .before .before .if1 .left), eq-eqb _ _ (c .before .if3 .taken), eq-eqb _ _ (c .if4 .taken))
+returns-3 c = simp (
+  ne-eqb _ _ (c .before .before .if1 .left),
+  eq-eqb _ _ (c .before .if3 .taken),
+  eq-eqb _ _ (c .if4 .taken),
+)
 
 returns-4 : tie.Need-returns-4
 unfolding plainKind
-returns-4 c = simp (ne-eqb _ _ (c .before .before .before .if1 .left), eq-eqb _ _ (c .before .before .if3 .taken), ne-eqb _ _ (c .before .if4 .left), eq-eqb _ _ (c .if5 .taken))
+returns-4 c = simp (
+  ne-eqb _ _ (c .before .before .before .if1 .left),
+  eq-eqb _ _ (c .before .before .if3 .taken),
+  ne-eqb _ _ (c .before .if4 .left),
+  eq-eqb _ _ (c .if5 .taken),
+)
 
 returns-5 : tie.Need-returns-5
 unfolding plainKind
-returns-5 c = simp (ne-eqb _ _ (c .before .before .before .if1 .left), eq-eqb _ _ (c .before .before .if3 .taken), ne-eqb _ _ (c .before .if4 .left), ne-eqb _ _ (c .if5 .left))
+returns-5 c = simp (
+  ne-eqb _ _ (c .before .before .before .if1 .left),
+  eq-eqb _ _ (c .before .before .if3 .taken),
+  ne-eqb _ _ (c .before .if4 .left),
+  ne-eqb _ _ (c .if5 .left),
+)
 
 returns-6 : tie.Need-returns-6
 unfolding plainKind

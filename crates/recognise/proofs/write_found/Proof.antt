@@ -1,9 +1,7 @@
 -- `write_found` meets its contract: each return knows how the tests above it went.
-use Prim.Native.Nat.{_+_, _-_, _≤_, _<_}
-use mathlib.Core.Path.{_≡_, refl, sym, _∙_}
-use mathlib.Core.Bool.{not, false, true, _&&_, _||_}
+use Prim.Native.Nat.{_≤_, _<_}
+use mathlib.Core.Path.{_≡_, refl}
 use borrow.Author.Needs.{needs}
-use borrow.Author.Tests.{eq-eqb, ne-eqb}
 use native.Mathlib.Omega.{arith}
 use native.Mathlib.Nat.{sub-zero}
 use lib.ListN.{length, take, length-take}
@@ -14,7 +12,8 @@ use Rattle.recognise.proofs.write_found.Tie as tie
 returns : tie.Need-returns
 returns c = rw (settle-refuses _ _ _ _ _ (c .before .if1 .taken)) (record { answered = c .refused .ensures; left = refl })
 
-written : (c : tie.Else1) → length (take (c .before .before .before .args .found .count) (c .before .before .before .args .found .ids)) ≡ c .before .before .before .args .found .count
+written : (c : tie.Else1)
+    → length (take (c .before .before .before .args .found .count) (c .before .before .before .args .found .ids)) ≡ c .before .before .before .args .found .count
 written c = simp length-take (omega arith)
 
 returns-2 : tie.Need-returns-2
@@ -38,4 +37,5 @@ returns-3 c =
 pub write-found-spec : {M : Type 1} → statement M
 write-found-spec =
     tie.close
-    (tie.spec (λ c κs. search needs) returns (λ c κs. search needs) returns-2 (λ c. search needs) (λ c. search needs) (λ c. search needs) copy-requires (λ c κs. search needs) (λ c. search needs) returns-3)
+    (tie.spec (λ c κs. search needs) returns (λ c κs. search needs) returns-2 (λ c. search needs)
+    (λ c. search needs) (λ c. search needs) copy-requires (λ c κs. search needs) (λ c. search needs) returns-3)

@@ -1,6 +1,5 @@
 -- `refuse` meets its contract: a refusal counts no simplexes, and its line has room.
 use borrow.Author.Needs.{needs}
-use native.Mathlib.Omega.{arith}
 use mathlib.Core.Path.{_≡_, ap}
 use Rattle.base.specs.Kinds.{nodesOf}
 use Rattle.base.specs.declared.refusals.Answer.{Answer}

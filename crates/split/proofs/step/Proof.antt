@@ -18,7 +18,7 @@ print-record-requires c κs =
     let found : l .look .result ≡ Whole (v .0) (v .1 .0) (v .1 .1 .0) (v .1 .1 .1 .0) = f .frame .given .1 in
     let s = stands (take (a .state .to) (a .input .now)) (a .state .from) _ _ _ _ (sym (l .look .ensures) ∙ found) in
     let size : length (take (a .state .to) (a .input .now)) ≤ a .state .to = rw length-take (omega arith) in
-    ((omega (arith, s .within), search needs, search needs, search needs), (omega (arith, s .eights), omega (arith, s .eights, s .few), omega (arith, s .eights)))
+    ((search needs, search needs, omega (arith, s .within)), (omega (arith, s .eights), omega (arith, s .eights, s .few), omega (arith, s .eights)))
 
 pub step-spec : {M : Type 1} → statement M
 step-spec =

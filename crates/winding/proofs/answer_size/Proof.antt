@@ -1,5 +1,4 @@
 -- `answer_size` meets its contract: the branches are the definition's.
-use borrow.Author.Needs.{needs}
 use Rattle.winding.specs.Reorient.{answerSize}
 use Rattle.winding.proofs.answer_size.Statement.{statement}
 use Rattle.winding.proofs.answer_size.Tie as tie
@@ -9,7 +8,7 @@ unfolding answerSize
 answer-size-spec =
     tie.close
     (tie.spec
-    (λ c κs. search needs)
-    (λ c κs. search needs)
+    (λ c κs. tt)
+    (λ c κs. tt)
     (λ c. simp (← c .before .before .turns-in-space .ensures, c .before .if1 .taken, c .faces-size .ensures))
     (λ c. simp (← c .before .turns-in-space .ensures, c .if1 .left)))

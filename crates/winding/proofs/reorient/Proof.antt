@@ -1,11 +1,9 @@
 -- `reorient` meets its contract: it ends in one of the three ways of every operation.
 use borrow.Author.Needs.{needs}
 use mathlib.Core.Path.{_≡_, refl, sym, ap, _∙_}
-use Prim.Native.Nat.{ℕ, _≤_, _<_}
-use native.Mathlib.Omega.{arith}
 use lib.ListN.{length}
 use Rattle.base.proofs.Settle.{settle-refuses, settle-short, settle-gives}
-use Rattle.base.specs.Outcome.{Permits, refused, given}
+use Rattle.base.specs.Outcome.{refused, given}
 use Rattle.winding.specs.Reorient.{reoriented, reorientRefusal}
 use Rattle.winding.proofs.Passed.{answer-length}
 use Rattle.winding.proofs.reorient.Statement.{statement}
@@ -30,7 +28,9 @@ passed c = sym (c .before .before .reorient-refusal .ensures) ∙ c .before .if1
 size : (c : tie.After-answer-size)
     → c .answer-size .result
     ≡ length (reoriented (Begin c .args .kind) (Begin c .args .ids .now) (Begin c .args .dimension) (Begin c .args .points .now))
-size c = c .answer-size .ensures ∙ sym (answer-length (Begin c .args .kind) (Begin c .args .ids .now) (Begin c .args .dimension) (Begin c .args .points .now))
+size c =
+    c .answer-size .ensures
+    ∙ sym (answer-length (Begin c .args .kind) (Begin c .args .ids .now) (Begin c .args .dimension) (Begin c .args .points .now))
 
 returns-2 : tie.Need-returns-2
 returns-2 c =
@@ -55,5 +55,5 @@ pub reorient-spec : {M : Type 1} → statement M
 reorient-spec =
     tie.close
     (tie.spec
-    (λ c κs. search needs) (λ c κs. search needs) returns (λ c κs. search needs) (λ c κs. search needs) returns-2
-    wind-requires (λ c κs. search needs) (λ c. search needs) returns-3)
+    (λ c κs. tt) (λ c κs. tt) returns (λ c κs. tt) (λ c κs. tt) returns-2
+    wind-requires (λ c κs. tt) (λ c. search needs) returns-3)

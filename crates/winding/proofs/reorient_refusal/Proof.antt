@@ -1,5 +1,4 @@
 -- `reorient_refusal` meets its contract: each return knows how the tests above it went.
-use borrow.Author.Needs.{needs}
 use borrow.Author.Tests.{eq-eqb, ne-eqb}
 use Rattle.winding.specs.Reorient.{reorientRefusal}
 use Rattle.winding.proofs.reorient_refusal.Statement.{statement}
@@ -10,13 +9,13 @@ unfolding reorientRefusal
 reorient-refusal-spec =
     tie.close
     (tie.spec
-    (λ c κs. search needs)
+    (λ c κs. tt)
     (λ c. simp (← c .before .element-refusal .ensures, ne-eqb _ _ (c .if1 .taken)))
-    (λ c κs. search needs)
+    (λ c κs. tt)
     (λ c.
     let e = c .before .before in
     simp (← e .before .element-refusal .ensures, eq-eqb _ _ (e .if1 .left), ← c .before .points-fit .ensures, c .if2 .taken))
-    (λ c κs. search needs)
+    (λ c κs. tt)
     (λ c.
     let p = c .before .before in
     let e = p .before .before in
@@ -28,7 +27,7 @@ reorient-refusal-spec =
       ← c .before .has-no-rule .ensures,
       c .if3 .taken,
     ))
-    (λ c κs. search needs)
+    (λ c κs. tt)
     (λ c.
     let h = c .before .before in
     let p = h .before .before in

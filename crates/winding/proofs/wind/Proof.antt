@@ -1,6 +1,6 @@
 -- `wind` meets its contract: each branch writes what the definition takes there.
 use borrow.Author.Needs.{needs}
-use mathlib.Core.Path.{_≡_, sym, ap, _∙_}
+use mathlib.Core.Path.{sym, _∙_}
 use Prim.Native.Nat.{_≤_}
 use native.Mathlib.Omega.{arith}
 use lib.ListN.{length}
@@ -35,7 +35,8 @@ returns c =
     let r = p .before .before in
     let t = r .before in
     let a = t .before .before .before .before .before .args in
-    rw (in-space (a .kind) (a .ids .now) (a .dimension) (a .points .now) (sym (t .before .turns-in-space .ensures) ∙ t .if1 .taken), ← r .reference .ensures)
+    let space = sym (t .before .turns-in-space .ensures) ∙ t .if1 .taken in
+    rw (in-space (a .kind) (a .ids .now) (a .dimension) (a .points .now) space, ← r .reference .ensures)
     (p .put-faces .ensures)
 
 runs-clockwise-requires : tie.Need-runs-clockwise-requires
@@ -59,7 +60,9 @@ returns-2 c =
     let t = r .before in
     let e = t .before .before in
     let a = e .before .before .before .before .before .args in
-    rw (in-plane (a .kind) (a .ids .now) (a .dimension) (a .points .now) (sym (e .before .turns-in-space .ensures) ∙ e .if1 .left) (sym (t .before .turns-in-plane .ensures) ∙ t .if2 .taken), ← r .runs-clockwise .ensures)
+    let space = sym (e .before .turns-in-space .ensures) ∙ e .if1 .left in
+    let plane = sym (t .before .turns-in-plane .ensures) ∙ t .if2 .taken in
+    rw (in-plane (a .kind) (a .ids .now) (a .dimension) (a .points .now) space plane, ← r .runs-clockwise .ensures)
     (p .put-run .ensures ∙ paste-front (a .out .now) (r .runs-clockwise .result) (a .ids .now))
 
 copy-requires : tie.Need-copy-requires
@@ -76,13 +79,15 @@ returns-3 c =
     let t = p .before .before in
     let e = t .before .before in
     let a = e .before .before .before .before .before .args in
-    rw (as-it-is (a .kind) (a .ids .now) (a .dimension) (a .points .now) (sym (e .before .turns-in-space .ensures) ∙ e .if1 .left) (sym (t .before .turns-in-plane .ensures) ∙ t .if2 .left))
+    let space = sym (e .before .turns-in-space .ensures) ∙ e .if1 .left in
+    let plane = sym (t .before .turns-in-plane .ensures) ∙ t .if2 .left in
+    rw (as-it-is (a .kind) (a .ids .now) (a .dimension) (a .points .now) space plane)
     (p .copy .ensures)
 
 pub wind-spec : {M : Type 1} → statement M
 wind-spec =
     tie.close
     (tie.spec
-    (λ c κs. search needs) reference-requires put-faces-requires (λ c. search needs) returns
-    (λ c κs. search needs) runs-clockwise-requires put-run-requires (λ c. search needs) returns-2
+    (λ c κs. tt) reference-requires put-faces-requires (λ c. search needs) returns
+    (λ c κs. tt) runs-clockwise-requires put-run-requires (λ c. search needs) returns-2
     copy-requires (λ c. search needs) returns-3)

@@ -8,7 +8,13 @@ returns : tie.Need-returns
 unfolding above
 returns c =
     let t = c .before .before in
-    rw (c .corner2 .ensures, ← t .before .before .place .ensures .0, ← t .before .corner .ensures, ← t .in-bottom .ensures, c .before .if1 .taken)
+    rw (
+      c .corner2 .ensures,
+      ← t .before .before .place .ensures .0,
+      ← t .before .corner .ensures,
+      ← t .in-bottom .ensures,
+      c .before .if1 .taken,
+    )
 
 returns-2 : tie.Need-returns-2
 unfolding above
@@ -19,4 +25,5 @@ returns-2 c =
 pub above-spec : {M : Type 1} → statement M
 above-spec =
     tie.close
-    (tie.spec (λ c κs. search needs) (λ c. search needs) (λ c κs. search needs) (λ c κs. search needs) (λ c. search needs) (λ c κs. search needs) returns returns-2)
+    (tie.spec (λ c κs. search needs) (λ c. search needs) (λ c κs. search needs) (λ c κs. search needs)
+    (λ c. search needs) (λ c κs. search needs) returns returns-2)

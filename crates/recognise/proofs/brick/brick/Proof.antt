@@ -19,7 +19,13 @@ returns-2 c =
     let s = l .before in
     let o = s .before .before in
     holds-as (c .refused2 .ensures)
-    (rw (← o .opposite .ensures .0, ne-eqb _ _ (s .before .if1 .left), ← s .sides-at-edges .ensures .0, ← l .lacks-one .ensures, c .before .if2 .taken))
+    (rw (
+      ← o .opposite .ensures .0,
+      ne-eqb _ _ (s .before .if1 .left),
+      ← s .sides-at-edges .ensures .0,
+      ← l .lacks-one .ensures,
+      c .before .if2 .taken,
+    ))
 
 returns-3 : tie.Need-returns-3
 unfolding brick
@@ -28,9 +34,16 @@ returns-3 c =
     let s = l .before in
     let o = s .before .before in
     holds-as (c .brick-from .ensures)
-    (rw (← o .opposite .ensures .0, ne-eqb _ _ (s .before .if1 .left), ← s .sides-at-edges .ensures .0, ← l .lacks-one .ensures, c .before .if2 .left))
+    (rw (
+      ← o .opposite .ensures .0,
+      ne-eqb _ _ (s .before .if1 .left),
+      ← s .sides-at-edges .ensures .0,
+      ← l .lacks-one .ensures,
+      c .before .if2 .left,
+    ))
 
 pub brick-spec : {M : Type 1} → statement M
 brick-spec =
     tie.close
-    (tie.spec (λ c κs. search needs) (λ c κs. search needs) returns (λ c κs. search needs) (λ c κs. search needs) (λ c κs. search needs) returns-2 (λ c κs. search needs) returns-3)
+    (tie.spec (λ c κs. search needs) (λ c κs. search needs) returns (λ c κs. search needs)
+    (λ c κs. search needs) (λ c κs. search needs) returns-2 (λ c κs. search needs) returns-3)

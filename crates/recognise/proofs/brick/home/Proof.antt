@@ -1,5 +1,4 @@
 -- `brick::home` meets its contract: the four tests are those of the search.
-use native.Mathlib.Omega.{arith}
 use borrow.Author.Needs.{needs}
 use Rattle.recognise.specs.Brick.{home}
 use Rattle.recognise.specs.Seek.{seek}
@@ -13,4 +12,5 @@ returns c = (cc)
 pub home-spec : {M : Type 1} → statement M
 home-spec =
     tie.close
-    (tie.spec (λ c κs. search needs) (λ c κs. search needs) (λ c κs. search needs) (λ c κs. search needs) (λ c κs. search needs) returns)
+    (tie.spec (λ c κs. search needs) (λ c κs. search needs) (λ c κs. search needs) (λ c κs. search needs)
+    (λ c κs. search needs) returns)

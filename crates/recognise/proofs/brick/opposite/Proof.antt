@@ -1,10 +1,8 @@
 -- `brick::opposite` meets its contract: the search from quad k on finds what the whole search does.
-use Prim.Native.Nat.{_+_, _-_, _≤_}
-use mathlib.Core.Path.{_≡_, refl, sym, _∙_}
-use mathlib.Core.Bool.{not, false, true, _&&_, _||_}
+use Prim.Native.Nat.{_-_, _≤_}
+use mathlib.Core.Path.{_≡_, refl}
+use mathlib.Core.Bool.{not, false, true}
 use borrow.Author.Needs.{needs}
-use borrow.Author.Tests.{eq-eqb, ne-eqb}
-use native.Mathlib.Omega.{arith}
 use Rattle.recognise.specs.Brick.{touches, opposite}
 use Rattle.recognise.specs.Seek.{seek}
 use Rattle.recognise.proofs.Seeks.{seek-here, seek-on, seek-none}
@@ -24,13 +22,15 @@ loop-holds c = (search needs, refl)
 loop-again : tie.Need-loop-again Inv-loop μ-loop
 loop-again c =
     let k = c .before .before .before in
-    let t : not (touches (k .before .before .args .quads .now) (k .loop .k)) ≡ false = rw (← c .before .touches .ensures, c .if1 .taken) in
+    let t : not (touches (k .before .before .args .quads .now) (k .loop .k)) ≡ false =
+    rw (← c .before .touches .ensures, c .if1 .taken) in
     (search needs, seek-on _ _ 6 _ (k .loop .inv .1) (search needs) t)
 
 returns : tie.Need-returns Inv-loop μ-loop
 returns c =
     let k = c .before .before .before in
-    let t : not (touches (k .before .before .args .quads .now) (k .loop .k)) ≡ true = rw (← c .before .touches .ensures, c .if1 .left) in
+    let t : not (touches (k .before .before .args .quads .now) (k .loop .k)) ≡ true =
+    rw (← c .before .touches .ensures, c .if1 .left) in
     (seek-here _ _ 6 _ (k .loop .inv .1) (search needs) t, search needs)
 
 returns-2 : tie.Need-returns-2 Inv-loop μ-loop
@@ -39,4 +39,5 @@ returns-2 c = (seek-none _ _ 6 _ (c .before .loop .inv .1) (search needs) (searc
 pub opposite-spec : {M : Type 1} → statement M
 opposite-spec =
     tie.close
-    (tie.spec Inv-loop μ-loop loop-holds (λ c κs. search needs) (λ c. search needs) (λ c. search needs) loop-again returns returns-2)
+    (tie.spec Inv-loop μ-loop loop-holds (λ c κs. search needs) (λ c. search needs) (λ c. search needs)
+    loop-again returns returns-2)

@@ -1,10 +1,8 @@
 -- `brick::side` meets its contract: the search from quad k on finds what the whole search does.
-use Prim.Native.Nat.{_+_, _-_, _≤_}
-use mathlib.Core.Path.{_≡_, refl, sym, _∙_}
-use mathlib.Core.Bool.{not, false, true, _&&_, _||_}
+use Prim.Native.Nat.{_-_, _≤_}
+use mathlib.Core.Path.{_≡_, sym, _∙_}
+use mathlib.Core.Bool.{not, _&&_}
 use borrow.Author.Needs.{needs}
-use borrow.Author.Tests.{eq-eqb, ne-eqb}
-use native.Mathlib.Omega.{arith}
 use lib.Dec.{eqb}
 use Rattle.recognise.specs.Brick.{hasEdge, side}
 use Rattle.recognise.specs.Seek.{seek}
@@ -38,4 +36,5 @@ returns-2 c = (seek-none _ _ 6 _ (c .before .loop .inv .1) (search needs) (searc
 pub side-spec : {M : Type 1} → statement M
 side-spec =
     tie.close
-    (tie.spec Inv-loop μ-loop (λ c κs. search needs) (λ c. search needs) (λ c κs. search needs) loop-holds (λ c κs. search needs) returns (λ c. search needs) (λ c. search needs) loop-again returns-2)
+    (tie.spec Inv-loop μ-loop (λ c κs. search needs) (λ c. search needs) (λ c κs. search needs) loop-holds
+    (λ c κs. search needs) returns (λ c. search needs) (λ c. search needs) loop-again returns-2)

@@ -1,21 +1,21 @@
 -- `lengths::add_face` meets its contract: a face of n nodes is copied, any other adds nothing.
-use Prim.Native.Nat.{_+_, _-_, _≤_}
-use mathlib.Core.Path.{_≡_, refl, sym, _∙_}
-use mathlib.Core.Bool.{not, false, true, _&&_, _||_}
+use Prim.Native.Nat.{_+_, _≤_}
+use mathlib.Core.Path.{_≡_, sym, _∙_}
 use borrow.Author.Needs.{needs}
-use borrow.Author.Tests.{eq-eqb, ne-eqb}
 use native.Mathlib.Omega.{arith}
 use native.Mathlib.Nat.{add-zero}
 use mathlib.Core.List.{_++_}
-use lib.ListN.{length, take, drop, length-take, length-drop}
+use lib.ListN.{length, take, length-take, length-drop}
 use Rattle.base.proofs.Lists.{rest-whole}
+use Rattle.recognise.specs.Filling.{added}
 use Rattle.recognise.specs.Recognise.{ofLength}
 use Rattle.faces.specs.Faces.{part}
-use Rattle.recognise.proofs.Nodes.{length-part, of-length, not-of-length, added, none-added, part-home}
+use Rattle.recognise.proofs.Nodes.{length-part, of-length, not-of-length, none-added, part-home}
 use Rattle.recognise.proofs.lengths.add_face.Statement.{statement}
 use Rattle.recognise.proofs.lengths.add_face.Tie as tie
 
-room : (c : tie.Then1) → c .before .before .before .args .filled + c .before .before .before .args .n ≤ length (c .before .before .before .args .out .now)
+room : (c : tie.Then1)
+    → c .before .before .before .args .filled + c .before .before .before .args .n ≤ length (c .before .before .before .args .out .now)
 room c = c .before .before .before .pre .2 (c .if1 .taken)
 
 mul-copy-2 : tie.Need-mul-copy-2
@@ -37,9 +37,14 @@ returns : tie.Need-returns
 returns c =
     let t = c .before .before .before .before .before in
     let s = t .before .before .before in
-    let e : length (part (s .args .ids .now) (s .args .start) (s .args .end)) ≡ s .args .n = length-part _ _ _ (s .pre .0) (s .pre .1) ∙ t .if1 .taken in
+    let e : length (part (s .args .ids .now) (s .args .start) (s .args .end)) ≡ s .args .n =
+    length-part _ _ _ (s .pre .0) (s .pre .1) ∙ t .if1 .taken in
     let h : take (s .args .filled) (s .args .out .now) ++ c .before .before .copy .last .1 .0
-    ≡ added (s .args .out .now) (ofLength (s .args .n) (part (s .args .ids .now) (s .args .start) (s .args .end))) (s .args .filled) = rw (of-length _ _ e, c .before .before .copy .ensures, rest-whole) in
+    ≡ added (s .args .out .now) (ofLength (s .args .n) (part (s .args .ids .now) (s .args .start) (s .args .end))) (s .args .filled) = rw (
+      of-length _ _ e,
+      c .before .before .copy .ensures,
+      rest-whole,
+    ) in
     (rw (of-length _ _ e, e), part-home (s .args .out .now) _ (s .args .filled) ∙ h)
 
 returns-2 : tie.Need-returns-2
@@ -51,4 +56,6 @@ returns-2 c =
 pub add-face-spec : {M : Type 1} → statement M
 add-face-spec =
     tie.close
-    (tie.spec (λ c. search needs) (λ c. search needs) (λ c. search needs) (λ c. search needs) (λ c. search needs) mul-copy-2 sub-copy-2 part-copy-start-2 (λ c. search needs) copy-requires add-result (λ c. search needs) returns returns-2)
+    (tie.spec (λ c. search needs) (λ c. search needs) (λ c. search needs) (λ c. search needs)
+    (λ c. search needs) mul-copy-2 sub-copy-2 part-copy-start-2 (λ c. search needs) copy-requires add-result
+    (λ c. search needs) returns returns-2)

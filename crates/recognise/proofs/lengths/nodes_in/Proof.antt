@@ -1,9 +1,7 @@
 -- `lengths::nodes_in` meets its contract: what is written is the front of the whole, and what is left to read its rest.
 use Prim.Native.Nat.{_+_, _-_, _≤_}
-use mathlib.Core.Path.{_≡_, refl, sym, _∙_}
-use mathlib.Core.Bool.{not, false, true, _&&_, _||_}
+use mathlib.Core.Path.{_≡_, refl, _∙_}
 use borrow.Author.Needs.{needs}
-use borrow.Author.Tests.{eq-eqb, ne-eqb}
 use native.Mathlib.Omega.{arith}
 use lib.ListN.{length, drop}
 use Rattle.faces.specs.Faces.{faces, part}
@@ -20,7 +18,8 @@ Inv-loop ids n out₀ filled₀ at₀ out filled at =
 abbrev μ-loop : tie.MeasureT-loop
 μ-loop ids n out₀ filled₀ at₀ out filled at = length ids - at
 
-walk : (c : tie.After-next-face Inv-loop μ-loop) → Next (c .before .before .before .before .before .args .ids .now) (c .before .before .loop .at) (c .next-face .result)
+walk : (c : tie.After-next-face Inv-loop μ-loop)
+    → Next (c .before .before .before .before .before .args .ids .now) (c .before .before .loop .at) (c .next-face .result)
 walk c = next _ _ (c .before .loop-test .taken) _ (c .next-face .ensures)
 
 loop-holds : tie.Need-loop-holds Inv-loop μ-loop
@@ -39,7 +38,8 @@ add-face-requires c κs =
           let p = length-part (s .args .ids .now) (f .next-face .result .start) (f .next-face .result .end) (w .run) (w .within) ∙ e in
           let m = ofLength (s .args .n) (part (s .args .ids .now) (f .next-face .result .start) (f .next-face .result .end)) in
           let q : length m ≡ s .args .n = rw (of-length _ _ p) p in
-          let g : k .loop .filled + length m ≤ length (k .loop .out) = filled-room _ _ _ _ m (nodesIn (s .args .n) (faces (drop (f .next-face .result .end) (s .args .ids .now)))) (s .pre) t in
+          let g : k .loop .filled + length m ≤ length (k .loop .out) =
+          filled-room _ _ _ _ m (nodesIn (s .args .n) (faces (drop (f .next-face .result .end) (s .args .ids .now)))) (s .pre) t in
           omega arith,
     )
 
@@ -53,8 +53,13 @@ loop-again c =
     let s = k .before .before .before in
     let w = walk f in
     let t = rw (nodes-step (s .args .ids .now) (k .loop .at) (f .next-face .result) w (s .args .n)) at (k .loop .inv .1) in
-    let e = c .before .before .add-face .ensures in
-    (w .within, rw (e .1, e .0) (filled-more _ _ _ _ (ofLength (s .args .n) (part (s .args .ids .now) (f .next-face .result .start) (f .next-face .result .end))) _ (s .pre) t))
+    let e = c .before .before .add-face .ensures in (
+      w .within,
+      rw (
+        e .1,
+        e .0,
+      ) (filled-more _ _ _ _ (ofLength (s .args .n) (part (s .args .ids .now) (f .next-face .result .start) (f .next-face .result .end))) _ (s .pre) t),
+    )
 
 same-length : tie.Need-same-length Inv-loop μ-loop
 same-length c = c .before .loop .inv .1 .long
@@ -67,4 +72,5 @@ returns c =
 pub nodes-in-spec : {M : Type 1} → statement M
 nodes-in-spec =
     tie.close
-    (tie.spec Inv-loop μ-loop loop-holds (λ c κs. search needs) add-face-requires loop-less loop-again same-length returns)
+    (tie.spec Inv-loop μ-loop loop-holds (λ c κs. search needs) add-face-requires loop-less loop-again
+    same-length returns)

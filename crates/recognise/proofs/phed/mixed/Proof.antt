@@ -1,15 +1,12 @@
 -- `phed::mixed` meets its contract: each return knows how the tests above it went, and the nodes of two triangles are six,
 -- those of three quads twelve.
-use Prim.Native.Nat.{_+_, _-_, _≤_}
-use mathlib.Core.Path.{_≡_, refl, sym, ap, _∙_}
-use mathlib.Core.Bool.{not, false, true, _&&_, _||_}
+use mathlib.Core.Path.{_≡_, _∙_}
 use borrow.Author.Needs.{needs}
 use borrow.Author.Tests.{eq-eqb, ne-eqb}
 use native.Mathlib.Omega.{arith}
 use lib.ListN.{length}
 use Rattle.faces.specs.Faces.{faces}
 use Rattle.recognise.specs.Recognise.{mixed, nodesIn}
-use Rattle.recognise.specs.Wedge.{wedge}
 use Rattle.recognise.proofs.Found.{holds-as}
 use Rattle.recognise.proofs.Nodes.{length-nodes, overwrite-whole}
 use Rattle.recognise.proofs.phed.mixed.Statement.{statement}
@@ -24,7 +21,12 @@ unfolding mixed
 returns-2 c =
     let t = c .before .before in
     holds-as (c .refused2 .ensures)
-    (rw (← t .before .before .tally .ensures, eq-eqb _ _ (t .before .if1 .left), ← t .tally2 .ensures, ne-eqb _ _ (c .before .if2 .taken)))
+    (rw (
+      ← t .before .before .tally .ensures,
+      eq-eqb _ _ (t .before .if1 .left),
+      ← t .tally2 .ensures,
+      ne-eqb _ _ (c .before .if2 .taken),
+    ))
 
 tris : (c : tie.Else2) → length (nodesIn 3 (faces (c .before .before .before .before .before .args .ids .now))) ≡ 6
 tris c = length-nodes 3 _ ∙ rw (← c .before .before .before .tally .ensures, c .before .before .if1 .left)
@@ -48,9 +50,18 @@ returns-3 c =
     let a = t .nodes-in .ensures ∙ overwrite-whole _ _ (tris e) in
     let b = q .nodes-in2 .ensures ∙ overwrite-whole _ _ (quads e) in
     holds-as (c .wedge .ensures)
-    (rw (a, b, ← k .before .before .tally .ensures, eq-eqb _ _ (k .before .if1 .left), ← k .tally2 .ensures, eq-eqb _ _ (e .if2 .left)))
+    (rw (
+      a,
+      b,
+      ← k .before .before .tally .ensures,
+      eq-eqb _ _ (k .before .if1 .left),
+      ← k .tally2 .ensures,
+      eq-eqb _ _ (e .if2 .left),
+    ))
 
 pub mixed-spec : {M : Type 1} → statement M
 mixed-spec =
     tie.close
-    (tie.spec (λ c κs. search needs) (λ c κs. search needs) returns (λ c κs. search needs) (λ c κs. search needs) returns-2 (λ c. search needs) nodes-in-requires (λ c. search needs) nodes-in-requires-2 (λ c. search needs) (λ c. search needs) (λ c κs. search needs) returns-3)
+    (tie.spec (λ c κs. search needs) (λ c κs. search needs) returns (λ c κs. search needs)
+    (λ c κs. search needs) returns-2 (λ c. search needs) nodes-in-requires (λ c. search needs)
+    nodes-in-requires-2 (λ c. search needs) (λ c. search needs) (λ c κs. search needs) returns-3)

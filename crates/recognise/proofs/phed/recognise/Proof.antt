@@ -1,10 +1,6 @@
 -- `phed::recognise` meets its contract: each return knows how the tests above it went.
-use Prim.Native.Nat.{_+_, _-_, _≤_}
-use mathlib.Core.Path.{_≡_, refl, sym, ap, _∙_}
-use mathlib.Core.Bool.{not, false, true, _&&_, _||_}
 use borrow.Author.Needs.{needs}
 use borrow.Author.Tests.{eq-eqb, ne-eqb}
-use native.Mathlib.Omega.{arith}
 use Rattle.recognise.specs.Recognise.{fromFaces}
 use Rattle.recognise.proofs.Found.{holds-as}
 use Rattle.recognise.proofs.phed.recognise.Statement.{statement}
@@ -12,14 +8,22 @@ use Rattle.recognise.proofs.phed.recognise.Tie as tie
 
 returns : tie.Need-returns
 unfolding fromFaces
-returns c = holds-as (c .refused .ensures) (rw (← c .before .before .other-length .ensures, eq-eqb _ _ (c .before .if1 .taken)))
+returns c = holds-as (c .refused .ensures) (rw (
+  ← c .before .before .other-length .ensures,
+  eq-eqb _ _ (c .before .if1 .taken),
+))
 
 returns-2 : tie.Need-returns-2
 unfolding fromFaces
 returns-2 c =
     let b = c .before .before in
     holds-as (c .regular .ensures)
-    (rw (← b .before .before .other-length .ensures, ne-eqb _ _ (b .before .if1 .left), ← b .other-length2 .ensures, eq-eqb _ _ (c .before .if2 .taken)))
+    (rw (
+      ← b .before .before .other-length .ensures,
+      ne-eqb _ _ (b .before .if1 .left),
+      ← b .other-length2 .ensures,
+      eq-eqb _ _ (c .before .if2 .taken),
+    ))
 
 returns-3 : tie.Need-returns-3
 unfolding fromFaces
@@ -54,4 +58,6 @@ returns-4 c =
 pub recognise-spec : {M : Type 1} → statement M
 recognise-spec =
     tie.close
-    (tie.spec (λ c κs. search needs) (λ c κs. search needs) returns (λ c κs. search needs) (λ c κs. search needs) returns-2 (λ c κs. search needs) (λ c κs. search needs) returns-3 (λ c κs. search needs) returns-4)
+    (tie.spec (λ c κs. search needs) (λ c κs. search needs) returns (λ c κs. search needs)
+    (λ c κs. search needs) returns-2 (λ c κs. search needs) (λ c κs. search needs) returns-3
+    (λ c κs. search needs) returns-4)

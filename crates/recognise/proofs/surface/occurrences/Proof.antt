@@ -1,42 +1,41 @@
 -- `surface::occurrences` meets its contract: what is counted and what is left to count add up to the whole.
 use Prim.Native.Nat.{_+_, _-_, _≤_}
-use mathlib.Core.Path.{_≡_, refl, sym, _∙_}
-use mathlib.Core.Bool.{not, false, true, _&&_, _||_}
+use mathlib.Core.Path.{_≡_}
 use borrow.Author.Needs.{needs}
-use borrow.Author.Tests.{eq-eqb, ne-eqb}
 use native.Mathlib.Omega.{arith}
 use lib.ListN.{length}
-use Rattle.faces.specs.Faces.{faces}
-use Rattle.faces.specs.Edges.{edge, edges, count}
-use native.Mathlib.Nat.{zero-add}
-use Rattle.recognise.proofs.Flat.{left, flat-faces, count-step, none-left}
+use Rattle.faces.specs.Edges.{edge, count}
+use Rattle.recognise.specs.Places.{edgesFrom}
+use Rattle.recognise.proofs.Flat.{count-step, none-from}
 use Rattle.recognise.proofs.surface.occurrences.Statement.{statement}
 use Rattle.recognise.proofs.surface.occurrences.Tie as tie
 
 abbrev Inv-loop : tie.InvT-loop
-Inv-loop ids a b found₀ i₀ found i =
-    (i ≤ length ids) × (found ≤ i) × (found + count (edge a b) (left ids i) ≡ count (edge a b) (edges (faces ids)))
+Inv-loop ids at a b found₀ i₀ found i =
+    (found ≤ i) × (found + count (edge a b) (edgesFrom ids i) ≡ count (edge a b) (edgesFrom ids at))
 
 abbrev μ-loop : tie.MeasureT-loop
-μ-loop ids a b found₀ i₀ found i = length ids - i
+μ-loop ids at a b found₀ i₀ found i = length ids - i
 
 loop-holds : tie.Need-loop-holds Inv-loop μ-loop
-loop-holds c = (search needs, search needs, rw (flat-faces, zero-add))
+loop-holds c = omega arith
 
 loop-again : tie.Need-loop-again Inv-loop μ-loop
 loop-again c =
-    let k = c .before .before in
-    let a = k .before .before .args in
+    let k = c .before .before .before in
+    let a = k .before .before .before .args in
     omega (arith, count-step (a .ids .now) (k .loop .i) (search needs) (edge (a .a) (a .b)))
 
 returns : tie.Need-returns Inv-loop μ-loop
 unfolding count
 returns c =
-    let a = c .before .before .before .args in
-    let z : count (edge (a .a) (a .b)) (left (a .ids .now) (c .before .loop .i)) ≡ 0 = rw (none-left _ _ (c .loop-test .left)) in
+    let a = c .before .before .before .before .args in
+    let z : count (edge (a .a) (a .b)) (edgesFrom (a .ids .now) (c .before .loop .i)) ≡ 0 =
+    rw (none-from _ _ (c .loop-test .left)) in
     omega arith
 
 pub occurrences-spec : {M : Type 1} → statement M
 occurrences-spec =
     tie.close
-    (tie.spec Inv-loop μ-loop loop-holds (λ c κs. search needs) (λ c. search needs) (λ c. search needs) (λ c. search needs) loop-again returns)
+    (tie.spec Inv-loop μ-loop (λ c κs. search needs) loop-holds (λ c κs. search needs) (λ c. search needs)
+    (λ c. search needs) (λ c κs. search needs) (λ c. search needs) loop-again returns)

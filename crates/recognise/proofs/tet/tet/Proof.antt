@@ -1,10 +1,8 @@
 -- `tet::tet` meets its contract: the nodes passed are of the first triangle, so what is left decides.
-use Prim.Native.Nat.{_+_, _-_, _≤_}
-use mathlib.Core.Path.{_≡_, refl, sym, _∙_}
-use mathlib.Core.Bool.{not, false, true, _&&_, _||_}
+use Prim.Native.Nat.{_-_}
+use mathlib.Core.Path.{_≡_, sym, _∙_}
+use mathlib.Core.Bool.{false, true}
 use borrow.Author.Needs.{needs}
-use borrow.Author.Tests.{eq-eqb, ne-eqb}
-use native.Mathlib.Omega.{arith}
 use lib.ListN.{length, drop}
 use Rattle.recognise.specs.Tet.{fourth, tet}
 use Rattle.recognise.proofs.Found.{holds-as}
@@ -24,14 +22,16 @@ loop-holds c = rw (c .before .before .node .ensures, c .before .node2 .ensures, 
 loop-again : tie.Need-loop-again Inv-loop μ-loop
 loop-again c =
     let k = c .before .before .before in
-    sym (fourth-step _ _ _ (k .loop .m) _ true (c .before .before .loop-test .taken) (rw (← c .before .node4 .ensures) (c .if1 .taken))) ∙ k .loop .inv
+    sym (fourth-step _ _ _ (k .loop .m) _ true (c .before .before .loop-test .taken)
+    (rw (← c .before .node4 .ensures) (c .if1 .taken))) ∙ k .loop .inv
 
 returns : tie.Need-returns Inv-loop μ-loop
 returns c =
     let x = c .before .before in
     let k = x .before .before in
     holds-as (c .tet4 .ensures) (rw (x .node4 .ensures)
-    (sym (fourth-step _ _ _ (k .loop .m) _ false (x .before .loop-test .taken) (rw (← x .node4 .ensures) (c .before .if1 .left))) ∙ k .loop .inv))
+    (sym (fourth-step _ _ _ (k .loop .m) _ false (x .before .loop-test .taken)
+    (rw (← x .node4 .ensures) (c .before .if1 .left))) ∙ k .loop .inv))
 
 returns-2 : tie.Need-returns-2 Inv-loop μ-loop
 returns-2 c =
@@ -41,4 +41,6 @@ returns-2 c =
 pub tet-spec : {M : Type 1} → statement M
 tet-spec =
     tie.close
-    (tie.spec Inv-loop μ-loop (λ c κs. search needs) (λ c κs. search needs) (λ c κs. search needs) loop-holds (λ c κs. search needs) (λ c. search needs) (λ c. search needs) loop-again (λ c κs. search needs) returns (λ c κs. search needs) returns-2)
+    (tie.spec Inv-loop μ-loop (λ c κs. search needs) (λ c κs. search needs) (λ c κs. search needs) loop-holds
+    (λ c κs. search needs) (λ c. search needs) (λ c. search needs) loop-again (λ c κs. search needs) returns
+    (λ c κs. search needs) returns-2)

@@ -1,10 +1,9 @@
 -- `wedge::place_in_second` meets its contract: the search from place m on finds what the whole search does.
 use Prim.Native.Nat.{_+_, _-_, _≤_}
-use mathlib.Core.Path.{_≡_, refl, sym, _∙_}
-use mathlib.Core.Bool.{not, false, true, _&&_, _||_}
+use mathlib.Core.Path.{_≡_, refl}
+use mathlib.Core.Bool.{false, true}
 use borrow.Author.Needs.{needs}
 use borrow.Author.Tests.{eq-eqb, ne-eqb}
-use native.Mathlib.Omega.{arith}
 use lib.Dec.{eqb}
 use Rattle.recognise.specs.Wedge.{placeInSecond}
 use Rattle.recognise.specs.Seek.{seek, nth}
@@ -26,14 +25,16 @@ loop-again : tie.Need-loop-again Inv-loop μ-loop
 loop-again c =
     let k = c .before .before .before in
     let a = k .before .before .args in
-    let t : eqb (nth (a .tris .now) (3 + k .loop .m)) (a .v) ≡ false = rw (← c .before .node .ensures) (ne-eqb _ _ (c .if1 .left)) in
+    let t : eqb (nth (a .tris .now) (3 + k .loop .m)) (a .v) ≡ false =
+    rw (← c .before .node .ensures) (ne-eqb _ _ (c .if1 .left)) in
     (search needs, seek-on _ _ 3 _ (k .loop .inv .1) (search needs) t)
 
 returns : tie.Need-returns Inv-loop μ-loop
 returns c =
     let k = c .before .before .before in
     let a = k .before .before .args in
-    let t : eqb (nth (a .tris .now) (3 + k .loop .m)) (a .v) ≡ true = rw (← c .before .node .ensures) (eq-eqb _ _ (c .if1 .taken)) in
+    let t : eqb (nth (a .tris .now) (3 + k .loop .m)) (a .v) ≡ true =
+    rw (← c .before .node .ensures) (eq-eqb _ _ (c .if1 .taken)) in
     (seek-here _ _ 3 _ (k .loop .inv .1) (search needs) t, search needs)
 
 returns-2 : tie.Need-returns-2 Inv-loop μ-loop
@@ -42,4 +43,5 @@ returns-2 c = (seek-none _ _ 3 _ (c .before .loop .inv .1) (search needs) (searc
 pub place-in-second-spec : {M : Type 1} → statement M
 place-in-second-spec =
     tie.close
-    (tie.spec Inv-loop μ-loop loop-holds (λ c. search needs) (λ c κs. search needs) returns (λ c. search needs) (λ c. search needs) loop-again returns-2)
+    (tie.spec Inv-loop μ-loop loop-holds (λ c. search needs) (λ c κs. search needs) returns (λ c. search needs)
+    (λ c. search needs) loop-again returns-2)

@@ -1,10 +1,6 @@
 -- `wedge::wedge` meets its contract: each return knows how the tests above it went.
-use Prim.Native.Nat.{_+_, _-_, _≤_}
-use mathlib.Core.Path.{_≡_, refl, sym, _∙_}
-use mathlib.Core.Bool.{not, false, true, _&&_, _||_}
 use borrow.Author.Needs.{needs}
 use borrow.Author.Tests.{eq-eqb, ne-eqb}
-use native.Mathlib.Omega.{arith}
 use Rattle.recognise.specs.Wedge.{wedge}
 use Rattle.recognise.proofs.Found.{holds-as}
 use Rattle.recognise.proofs.wedge.wedge.Statement.{statement}
@@ -15,7 +11,12 @@ unfolding wedge
 returns c =
     let r = c .before .before in
     holds-as (c .refused .ensures)
-    (rw (← r .before .before .node .ensures, ← r .before .node2 .ensures, ← r .runs-in .ensures .0, eq-eqb _ _ (c .before .if1 .taken)))
+    (rw (
+      ← r .before .before .node .ensures,
+      ← r .before .node2 .ensures,
+      ← r .runs-in .ensures .0,
+      eq-eqb _ _ (c .before .if1 .taken),
+    ))
 
 returns-2 : tie.Need-returns-2
 unfolding wedge
@@ -56,4 +57,6 @@ returns-3 c =
 pub wedge-spec : {M : Type 1} → statement M
 wedge-spec =
     tie.close
-    (tie.spec (λ c κs. search needs) (λ c κs. search needs) (λ c κs. search needs) (λ c κs. search needs) returns (λ c κs. search needs) (λ c. search needs) (λ c κs. search needs) (λ c κs. search needs) (λ c κs. search needs) returns-2 (λ c κs. search needs) returns-3)
+    (tie.spec (λ c κs. search needs) (λ c κs. search needs) (λ c κs. search needs) (λ c κs. search needs)
+    returns (λ c κs. search needs) (λ c. search needs) (λ c κs. search needs) (λ c κs. search needs)
+    (λ c κs. search needs) returns-2 (λ c κs. search needs) returns-3)

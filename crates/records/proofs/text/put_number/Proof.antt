@@ -1,7 +1,5 @@
 -- `text::put_number` meets its contract: as many digits are spelled as the number has.
 use borrow.Author.Needs.{needs}
-use mathlib.Core.Path.{_∙_}
-use native.Mathlib.Omega.{arith}
 use Rattle.records.specs.Text.{decimal, places}
 use Rattle.records.proofs.Decimals.{length-spelled}
 use Rattle.records.proofs.text.put_number.Statement.{statement}

@@ -1,9 +1,8 @@
 -- `wire::read_ids` meets its contract: the three ways in which an operation ends.
 use borrow.Author.Needs.{needs}
 use borrow.Author.Tests.{eq-eqb, ne-eqb}
-use mathlib.Core.Path.{_≡_, refl}
-use mathlib.Core.List.{List}
-use Prim.Native.Nat.{ℕ, _/_, _%_, _≤_, _<_}
+use mathlib.Core.Path.{refl}
+use Prim.Native.Nat.{_/_, _%_, _≤_, _<_}
 use native.Mathlib.Omega.{arith}
 use lib.ListN.{length}
 use Rattle.base.proofs.Settle.{settle-refuses, settle-short, settle-gives}

@@ -1,6 +1,5 @@
 -- `cells::hex_case` meets its contract: the three diagonals are the definition's.
 use borrow.Author.Needs.{needs}
-use mathlib.Core.Path.{_≡_}
 use Rattle.simplexes.proofs.cells.hex_case.Statement.{statement}
 use Rattle.simplexes.proofs.cells.hex_case.Tie as tie
 

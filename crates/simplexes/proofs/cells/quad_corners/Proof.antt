@@ -1,6 +1,6 @@
 -- `cells::quad_corners` meets its contract: 1 and 3 are the places of the second diagonal.
 use borrow.Author.Needs.{needs}
-use borrow.Author.Tests.{eq-eqb, ne-eqb}
+use borrow.Author.Tests.{ne-eqb}
 use Rattle.simplexes.proofs.cells.quad_corners.Statement.{statement}
 use Rattle.simplexes.proofs.cells.quad_corners.Tie as tie
 

@@ -1,7 +1,6 @@
 -- `cells::renumber` meets its contract: the eight ids that are gathered fill the cell.
 use borrow.Author.Needs.{needs}
 use mathlib.Core.Path.{_≡_, _∙_, ap}
-use mathlib.Core.List.{List}
 use Prim.Native.Nat.{ℕ}
 use lib.ListN.{length}
 use Rattle.base.specs.Gather.{pick, digits}

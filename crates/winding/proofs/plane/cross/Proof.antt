@@ -1,36 +1,21 @@
--- `plane::cross` meets its contract. Each arm is given that its operands are a variant's constructor at some values, at which `cross` computes.
-use mathlib.Core.Path.{sym, ap, ap₂}
+-- `plane::cross` meets its contract: in each arm the variant is known, and there the definition computes.
 use lib.Ieee.{ofBits}
 use borrow.Author.Needs.{needs}
-use Rattle.winding.specs.Plane.{cross}
-use Rattle.winding.specs.declared.point.Point.{Point}
 use Rattle.winding.proofs.plane.cross.Statement.{statement}
 use Rattle.winding.proofs.plane.cross.Tie as tie
 
-enum-known-from : tie.Need-enum-known-from
-enum-known-from c = search needs
-
-enum-known-to : tie.Need-enum-known-to
-enum-known-to c = search needs
-
-enum-told : tie.Need-enum-told
-enum-told c = search needs
-
-enum-told-2 : tie.Need-enum-told-2
-enum-told-2 c = search needs
-
 returns : tie.Need-returns
-returns c = sym (ap₂ (λ (p q : Point). cross p q) (c .before .before .before .before .from .given .1) (c .before .to .given .1))
+returns c = rw (c .before .before .before .before .from .given .1, c .before .to .given .1)
 
 returns-2 : tie.Need-returns-2
 unfolding ofBits
-returns-2 c = sym (ap₂ (λ (p q : Point). cross p q) (c .before .before .before .from .given .1) (c .enum-told .given .1))
+returns-2 c = rw (c .before .before .before .from .given .1, c .enum-told .given .1)
 
 returns-3 : tie.Need-returns-3
 unfolding ofBits
-returns-3 c = sym (ap (λ (p : Point). cross p (c .before .before .args .to)) (c .enum-told2 .given .1))
+returns-3 c = rw (c .enum-told2 .given .1)
 
 pub cross-spec : {M : Type 1} → statement M
 cross-spec =
     tie.close
-    (tie.spec enum-known-from enum-known-to enum-told enum-told-2 returns returns-2 returns-3)
+    (tie.spec (λ c. search needs) (λ c. search needs) (λ c. search needs) (λ c. search needs) returns returns-2 returns-3)

@@ -1,5 +1,4 @@
 -- `plane::runs_clockwise` meets its contract, from what `signed_area2` ensures.
-use borrow.Author.Needs.{needs}
 use mathlib.Core.Path.{ap}
 use lib.Ieee.{Float, lt, ofBits}
 use Rattle.winding.specs.Plane.{zero64}
@@ -11,4 +10,4 @@ unfolding ofBits
 returns c = ap (λ (area : Float). lt area zero64) (c .signed-area2 .ensures)
 
 pub runs-clockwise-spec : {M : Type 1} → statement M
-runs-clockwise-spec = tie.close (tie.spec (λ c κs. search needs) returns)
+runs-clockwise-spec = tie.close (tie.spec (λ c κs. c .before .before .pre) returns)

@@ -1,6 +1,6 @@
 -- `plane::signed_area2` meets its contract: the sum so far, over the edges that are left, gives the whole cycle's.
 use borrow.Author.Needs.{needs}
-use mathlib.Core.Path.{_≡_, refl, sym, ap, _∙_}
+use mathlib.Core.Path.{_≡_, refl, ap}
 use Prim.Native.Nat.{_-_}
 use lib.ListN.{length, drop}
 use lib.Ieee.{Float, binary64, div, ofBits}
@@ -59,5 +59,5 @@ signed-area2-spec =
     loop-holds
     (λ c. search needs) (λ c. search needs) point-at-requires
     (λ c κs. search needs) point-at-requires-2
-    (λ c κs. search needs) (λ c. search needs) (λ c. search needs)
+    (λ c κs. tt) (λ c. search needs) (λ c. search needs)
     loop-again returns)

@@ -2,7 +2,7 @@
 use borrow.Author.Needs.{needs}
 use mathlib.Core.Path.{_≡_, sym, _∙_}
 use mathlib.Core.Bool.{_||_}
-use Prim.Native.Nat.{_≤_, _<_, _-_}
+use Prim.Native.Nat.{_<_, _-_}
 use native.Mathlib.Numerals.{add-one}
 use lib.ListN.{length, drop, drop-of-length-le}
 use lib.Seq.{drop-cons}
@@ -29,11 +29,12 @@ returns : tie.Need-returns Inv-loop μ-loop
 unfolding lacksPoint
 returns c =
     let l = c .before in
-    sym (or-false (l .loop .found)) ∙ (rw (drop-of-length-le (l .before .before .args .ids .now) (c .loop-test .left)) at (l .loop .inv))
+    sym (or-false (l .loop .found))
+    ∙ (rw (drop-of-length-le (l .before .before .args .ids .now) (c .loop-test .left)) at (l .loop .inv))
 
 pub lacks-point-spec : {M : Type 1} → statement M
 lacks-point-spec =
     tie.close
     (tie.spec Inv-loop μ-loop
-    (λ c. search needs) (λ c. search needs) (λ c. search needs) (λ c κs. search needs) (λ c. search needs) (λ c. search needs)
+    (λ c. search needs) (λ c. search needs) (λ c. search needs) (λ c κs. tt) (λ c. search needs) (λ c. search needs)
     loop-again returns)

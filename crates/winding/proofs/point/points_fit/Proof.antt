@@ -1,5 +1,5 @@
 -- `point::points_fit` meets its contract: in each branch the dimension is known.
-use borrow.Author.Tests.{eq-eqb, ne-eqb}
+use borrow.Author.Tests.{ne-eqb}
 use Rattle.winding.specs.Points.{pointsFit}
 use Rattle.winding.proofs.point.points_fit.Statement.{statement}
 use Rattle.winding.proofs.point.points_fit.Tie as tie

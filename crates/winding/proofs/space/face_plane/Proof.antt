@@ -1,6 +1,6 @@
 -- `space::face_plane` meets its contract: the normal so far, over the edges that are left, gives the whole cycle's.
 use borrow.Author.Needs.{needs}
-use mathlib.Core.Path.{_≡_, refl, sym, ap, _∙_}
+use mathlib.Core.Path.{_≡_, refl}
 use Prim.Native.Nat.{_-_}
 use lib.ListN.{length, drop}
 use lib.Ieee.{ofBits}
@@ -59,5 +59,5 @@ face-plane-spec =
     loop-holds
     (λ c. search needs) (λ c. search needs) point-at-requires
     (λ c κs. search needs) point-at-requires-2
-    (λ c κs. search needs) (λ c. search needs) (λ c. search needs)
+    (λ c κs. tt) (λ c. search needs) (λ c. search needs)
     loop-again returns)

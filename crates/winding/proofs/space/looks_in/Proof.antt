@@ -1,6 +1,5 @@
 -- `space::looks_in` meets its contract, from what the functions that it calls ensure.
-use mathlib.Core.Path.{_≡_, ap, ap₂, _∙_}
-use native.Mathlib.Omega.{arith}
+use mathlib.Core.Path.{ap, ap₂, _∙_}
 use lib.Ieee.{Float, binary64, lt, mul, ofBits, round}
 use borrow.Author.Needs.{needs}
 use Rattle.winding.specs.Space.{tolerance, dotFrom, scaleOf, looksIn}
@@ -9,20 +8,8 @@ use Rattle.winding.specs.declared.point.Point.{Point}
 use Rattle.winding.proofs.space.looks_in.Statement.{statement}
 use Rattle.winding.proofs.space.looks_in.Tie as tie
 
-face-plane-requires : tie.Need-face-plane-requires
-face-plane-requires c κs = search needs
-
-shared-slice-read-point-at : tie.Need-shared-slice-read-point-at
-shared-slice-read-point-at c = search needs
-
 point-at-requires : tie.Need-point-at-requires
 point-at-requires c κs = let start = c .before .before .before .before in start .pre .0 0 (start .pre .1)
-
-dot-from-requires : tie.Need-dot-from-requires
-dot-from-requires c κs = tt
-
-scale-of-requires : tie.Need-scale-of-requires
-scale-of-requires c κs = tt
 
 returns : tie.Need-returns
 unfolding looksIn ofBits round
@@ -38,9 +25,9 @@ pub looks-in-spec : {M : Type 1} → statement M
 looks-in-spec =
     tie.close
     (tie.spec
-    face-plane-requires
-    shared-slice-read-point-at
+    (λ c κs. search needs)
+    (λ c. search needs)
     point-at-requires
-    dot-from-requires
-    scale-of-requires
+    (λ c κs. tt)
+    (λ c κs. tt)
     returns)

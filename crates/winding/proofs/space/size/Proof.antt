@@ -1,8 +1,8 @@
 -- `space::size` meets its contract: by cases on the float, with what the two tests found.
-use mathlib.Core.Path.{_≡_, refl, sym, ap, ap₂, _∙_}
+use mathlib.Core.Path.{_≡_, refl, sym, ap₂, _∙_}
 use mathlib.Core.Bool.{Bool, true, false, _&&_, true≢false, false≢true}
 use Prim.Native.Nat.{ℕ, zero, suc, _+_, _*_, _<_, _≤_}
-use native.Mathlib.Nat.{zero-lt-suc, zero-mul, mul-pos, lt-irrefl}
+use native.Mathlib.Nat.{zero-lt-suc, zero-mul, mul-pos}
 use native.Mathlib.Omega.{arith}
 use lib.IntN.{ℤ, pos}
 use lib.Ieee.{Float, nan, inf, fin, up, down, neg, eq, lt, level, ofBits}

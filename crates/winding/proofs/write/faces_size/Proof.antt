@@ -1,6 +1,5 @@
 -- `write::faces_size` meets its contract: the entries so far and those of the faces that are left make the whole.
-use borrow.Author.Needs.{needs}
-use mathlib.Core.Path.{_≡_, refl, sym, ap, _∙_}
+use mathlib.Core.Path.{_≡_, sym, ap, _∙_}
 use Prim.Native.Nat.{ℕ, _+_, _-_, _*_, _≤_}
 use native.Mathlib.Nat.{zero-add}
 use native.Mathlib.Omega.{arith}
@@ -53,16 +52,20 @@ loop-again c =
     let long : length face ≡ f .end - f .start = length-part ids (f .start) (f .end) (n .within) in
     let is : c .grown .result ≡ size + length (piece size face) =
     c .grown .ensures ∙ ap (λ (k : ℕ). cond (eqb k 0) size (cond (eqb size 0) k (size + 1 + k))) (sym long) ∙ piece-size size face in
-    let whole = ap (λ (fs : List (List ℕ)). length (behind size fs)) (n .face) ∙ ap length (behind-lead size face (faces (drop (f .end) ids))) ∙ length-append (piece size face) _ in
+    let whole =
+    ap (λ (fs : List (List ℕ)). length (behind size fs)) (n .face)
+    ∙ ap length (behind-lead size face (faces (drop (f .end) ids)))
+    ∙ length-append (piece size face) _ in
     (omega (arith, piece-le size face), n .within, rw is (omega arith ∙ l .loop .inv .2))
 
 returns : tie.Need-returns Inv-loop μ-loop
 returns c =
     let l = c .before in
     let ids = l .before .before .args .ids .now in
-    omega (arith, ap (λ (fs : List (List ℕ)). length (behind (l .loop .size) fs)) (no-more ids (l .loop .i) (c .loop-test .left)), ap length (behind-none (l .loop .size)))
+    let none = ap (λ (fs : List (List ℕ)). length (behind (l .loop .size) fs)) (no-more ids (l .loop .i) (c .loop-test .left)) in
+    omega (arith, ap length (behind-none (l .loop .size)))
 
 pub faces-size-spec : {M : Type 1} → statement M
 faces-size-spec =
     tie.close
-    (tie.spec Inv-loop μ-loop loop-holds (λ c κs. search needs) sub-grown grown-requires loop-less loop-again returns)
+    (tie.spec Inv-loop μ-loop loop-holds (λ c κs. tt) sub-grown grown-requires loop-less loop-again returns)

@@ -1,7 +1,7 @@
 -- `write::put_face` meets its contract: an empty face adds nothing; at the front the face is written, behind other
 -- entries a separator and the face.
-use mathlib.Core.Path.{_≡_, refl, sym, ap, _∙_}
-use mathlib.Core.List.{List, [], _∷_}
+use mathlib.Core.Path.{_≡_, sym, ap, _∙_}
+use mathlib.Core.List.{List}
 use mathlib.Core.Bool.{Bool}
 use Prim.Native.Nat.{ℕ, suc, _+_, _<_, _≤_}
 use native.Mathlib.Nat.{pos-of-ne-zero, add-zero, zero-add}
@@ -22,8 +22,10 @@ use Rattle.winding.proofs.write.put_face.Tie as tie
 returns : tie.Need-returns
 returns c =
     let a = c .before .before .before .before .args in
-    let face = now (a .face) in (
-      sym (ap (λ (l : List ℕ). splice (now (a .out)) (a .at) (piece (a .at) l)) (empty (outward (now (a .points)) (a .reference) face) (length-turned (looksIn (now (a .points)) (a .reference) face) face ∙ c .if1 .taken)) ∙ splice-nil (now (a .out)) (a .at)),
+    let face = now (a .face) in
+    let back = looksIn (now (a .points)) (a .reference) face in (
+      sym (ap (λ (l : List ℕ). splice (now (a .out)) (a .at) (piece (a .at) l)) (empty (turned back face) (length-turned back face ∙ c .if1 .taken))
+          ∙ splice-nil (now (a .out)) (a .at)),
       sym (ap (λ (l : List ℕ). a .at + length (piece (a .at) l)) (empty face (c .if1 .taken)) ∙ add-zero (a .at)),
     )
 
@@ -35,11 +37,9 @@ put-run-requires c κs =
     let start = c .before .before .before .before .before .before .before in
     let a = start .args in
     let z = c .before .if2 .taken in
-    let l : length (piece (a .at) (now (a .face))) ≡ length (now (a .face)) = ap (λ (k : ℕ). length (piece k (now (a .face)))) z ∙ ap length (piece-zero (now (a .face))) in
+    let face = now (a .face) in
+    let l : length (piece (a .at) face) ≡ length face = ap (λ (k : ℕ). length (piece k face)) z ∙ ap length (piece-zero face) in
     omega (arith, start .pre .1, l)
-
-same-length : tie.Need-same-length
-same-length c = search needs
 
 returns-2 : tie.Need-returns-2
 returns-2 c =
@@ -58,7 +58,8 @@ returns-2 c =
     )
 
 -- behind other entries there is room for the separator and the face
-room : (c : tie.Else2) → c .before .before .before .before .before .before .args .at + suc (length (now (c .before .before .before .before .before .before .args .face))) ≤ length (now (c .before .before .before .before .before .before .args .out))
+room : (c : tie.Else2)
+    → c .before .before .before .before .before .before .args .at + suc (length (now (c .before .before .before .before .before .before .args .face))) ≤ length (now (c .before .before .before .before .before .before .args .out))
 room c =
     let start = c .before .before .before .before .before .before in
     let a = start .args in
@@ -114,7 +115,7 @@ put-face-spec =
     returns
     looks-in-requires
     put-run-requires
-    same-length
+    (λ c. search needs)
     returns-2
     mul-out
     slice-write-out

@@ -1,17 +1,15 @@
 -- `write::put_faces` meets its contract: `Written` holds at each turn of the loop.
-use borrow.Author.Needs.{needs}
-use mathlib.Core.Path.{_≡_, sym, ap, _∙_, subst}
+use mathlib.Core.Path.{_≡_}
 use mathlib.Core.List.{List}
-use Prim.Native.Nat.{ℕ, _+_, _-_, _≤_}
+use Prim.Native.Nat.{ℕ, _-_, _≤_}
 use native.Mathlib.Omega.{arith}
 use lib.ListN.{length}
 use lib.Ieee.{Float}
 use denote.Ref.{now}
 use Rattle.winding.specs.declared.point.Vector.{Vector}
-use Rattle.faces.specs.Faces.{faces, part}
+use Rattle.faces.specs.Faces.{faces}
 use Rattle.faces.proofs.Walk.{Next, next}
 use Rattle.winding.specs.Space.{looksIn, outward}
-use Rattle.winding.specs.Scan.{piece}
 use Rattle.winding.proofs.Turned.{length-turned}
 use Rattle.winding.proofs.Points.{placed-face}
 use Rattle.winding.proofs.Joined.{joined-length}
@@ -41,7 +39,8 @@ found c = next _ (c .before .before .loop .i) (c .before .loop-test .taken) (c .
 room : (c : tie.Start Inv-loop μ-loop)
     → length (Whole (turn (now (c .args .points)) (c .args .reference)) (keeps (now (c .args .points)) (c .args .reference)) (now (c .args .ids)) (now (c .args .out)))
     ≤ length (now (c .args .out))
-room c = omega (arith, c .pre .1, joined-length (turn (now (c .args .points)) (c .args .reference)) (keeps (now (c .args .points)) (c .args .reference)) (faces (now (c .args .ids))))
+room c =
+    omega (arith, c .pre .1, joined-length (turn (now (c .args .points)) (c .args .reference)) (keeps (now (c .args .points)) (c .args .reference)) (faces (now (c .args .ids))))
 
 loop-holds : tie.Need-loop-holds Inv-loop μ-loop
 loop-holds c = start _ _ _ _
@@ -79,7 +78,7 @@ pub put-faces-spec : {M : Type 1} → statement M
 put-faces-spec =
     tie.close
     (tie.spec Inv-loop μ-loop loop-holds
-    (λ c κs. search needs)
+    (λ c κs. tt)
     (λ c. let n = found c in omega arith)
     (λ c. found c .run)
     (λ c. found c .run)

@@ -1,7 +1,6 @@
 -- `write::put_run` meets its contract. The loop's invariant: the first i entries of the turned run are pasted.
-use mathlib.Core.Path.{_≡_, refl, sym, ap, ap₂, _∙_}
+use mathlib.Core.Path.{_≡_, sym, ap, ap₂, _∙_}
 use mathlib.Core.List.{List}
-use mathlib.Core.Bool.{cond}
 use Prim.Native.Nat.{ℕ, _+_, _-_, _<_, _≤_, zero-le}
 use native.Mathlib.Nat.{le-antisymm}
 use native.Mathlib.Numerals.{add-one, add-one-le}
@@ -36,29 +35,14 @@ read c =
 loop-holds : tie.Need-loop-holds Inv-loop μ-loop
 loop-holds c = let a = c .before .before .args in (zero-le, paste-zero (now (a .out)) (a .at) (turned (a .back) (now (a .run))))
 
-source-requires : tie.Need-source-requires Inv-loop μ-loop
-source-requires c κs = c .loop-test .taken
-
 mul-out : tie.Need-mul-out Inv-loop μ-loop
 mul-out c = omega (arith, read c)
 
 shared-slice-read-out : tie.Need-shared-slice-read-out Inv-loop μ-loop
 shared-slice-read-out c = read (c .before)
 
-add-out : tie.Need-add-out Inv-loop μ-loop
-add-out c = omega arith
-
-mul-out-2 : tie.Need-mul-out-2 Inv-loop μ-loop
-mul-out-2 c = omega arith
-
 slice-write-out : tie.Need-slice-write-out Inv-loop μ-loop
 slice-write-out c = omega (arith, kept (c .before .before .before))
-
-add-i : tie.Need-add-i Inv-loop μ-loop
-add-i c = omega arith
-
-loop-less : tie.Need-loop-less Inv-loop μ-loop
-loop-less c = omega arith
 
 loop-again : tie.Need-loop-again Inv-loop μ-loop
 loop-again c =
@@ -90,14 +74,14 @@ put-run-spec =
     Inv-loop
     μ-loop
     loop-holds
-    source-requires
+    (λ c κs. c .loop-test .taken)
     mul-out
     shared-slice-read-out
-    add-out
-    mul-out-2
+    (λ c. omega arith)
+    (λ c. omega arith)
     slice-write-out
-    add-i
-    loop-less
+    (λ c. omega arith)
+    (λ c. omega arith)
     loop-again
     same-length
     returns)

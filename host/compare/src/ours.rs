@@ -1,0 +1,139 @@
+//! The library, through its C interface.
+
+use crate::case::{Case, Numbers, Operation, Outcome, lent};
+
+#[repr(C)]
+struct Answer {
+    refusal: u64,
+    kind: u64,
+    count: u64,
+}
+
+#[repr(C)]
+struct Parts {
+    refusal: u64,
+    kind: u64,
+    count: u64,
+    kind2: u64,
+    count2: u64,
+}
+
+type OneOutput = unsafe extern "C" fn(u64, *const u64, usize, *mut u64, usize) -> Answer;
+
+unsafe extern "C" {
+    fn ts_subentities(
+        k: u64,
+        ids: *const u64,
+        n: usize,
+        out: *mut u64,
+        m: usize,
+        ends: *mut u64,
+        e: usize,
+    ) -> Parts;
+    fn ts_subentities_of(
+        k: u64,
+        codim: u64,
+        ids: *const u64,
+        n: usize,
+        out: *mut u64,
+        m: usize,
+        ends: *mut u64,
+        e: usize,
+    ) -> Parts;
+    fn ts_to_poly(k: u64, ids: *const u64, n: usize, out: *mut u64, m: usize) -> Answer;
+    fn ts_from_poly(k: u64, ids: *const u64, n: usize, out: *mut u64, m: usize) -> Answer;
+    fn ts_to_simplexes(k: u64, ids: *const u64, n: usize, out: *mut u64, m: usize) -> Answer;
+    fn ts_reorient(
+        k: u64,
+        ids: *const u64,
+        n: usize,
+        dimension: u64,
+        points: *const f64,
+        p: usize,
+        out: *mut u64,
+        m: usize,
+    ) -> Answer;
+    fn ts_split_block(k: u64, ids: *const u64, n: usize, out: *mut u64, m: usize) -> Answer;
+    fn ts_split_record(bytes: *const u8, n: usize, out: *mut u64, m: usize) -> Answer;
+}
+
+/// The call with outputs of these lengths, and all that they hold after it.
+pub fn call(case: &Case, n_out: usize, n_ends: usize) -> Outcome {
+    let mut out = lent(n_out);
+    let mut ends = lent(n_ends);
+    let numbers = match case.operation {
+        Operation::Subentities | Operation::SubentitiesOf => parts(case, &mut out, &mut ends),
+        Operation::ToPoly => one(ts_to_poly, case, &mut out),
+        Operation::FromPoly => one(ts_from_poly, case, &mut out),
+        Operation::ToSimplexes => one(ts_to_simplexes, case, &mut out),
+        Operation::Reorient => reorient(case, &mut out),
+        Operation::SplitBlock => one(ts_split_block, case, &mut out),
+        Operation::SplitRecord => record(case, &mut out),
+    };
+    Outcome { numbers, out, ends }
+}
+
+fn parts(case: &Case, out: &mut [u64], ends: &mut [u64]) -> Numbers {
+    let (ids, n) = (case.ids.as_ptr(), case.ids.len());
+    let (o, m, e, k) = (out.as_mut_ptr(), out.len(), ends.as_mut_ptr(), ends.len());
+    // SAFETY: every pointer is that of a whole vector with its length, and no two overlap.
+    let p = unsafe {
+        match case.operation {
+            Operation::Subentities => ts_subentities(case.kind, ids, n, o, m, e, k),
+            _ => ts_subentities_of(case.kind, case.parameter, ids, n, o, m, e, k),
+        }
+    };
+    Numbers {
+        refusal: p.refusal,
+        kind: p.kind,
+        count: p.count,
+        kind2: p.kind2,
+        count2: p.count2,
+    }
+}
+
+fn one(operation: OneOutput, case: &Case, out: &mut [u64]) -> Numbers {
+    // SAFETY: as in `parts`.
+    numbers(unsafe {
+        operation(
+            case.kind,
+            case.ids.as_ptr(),
+            case.ids.len(),
+            out.as_mut_ptr(),
+            out.len(),
+        )
+    })
+}
+
+fn reorient(case: &Case, out: &mut [u64]) -> Numbers {
+    let (ids, points) = (&case.ids, &case.points);
+    // SAFETY: as in `parts`.
+    numbers(unsafe {
+        ts_reorient(
+            case.kind,
+            ids.as_ptr(),
+            ids.len(),
+            case.parameter,
+            points.as_ptr(),
+            points.len(),
+            out.as_mut_ptr(),
+            out.len(),
+        )
+    })
+}
+
+fn record(case: &Case, out: &mut [u64]) -> Numbers {
+    let bytes = case.record();
+    // SAFETY: as in `parts`.
+    numbers(unsafe { ts_split_record(bytes.as_ptr(), bytes.len(), out.as_mut_ptr(), out.len()) })
+}
+
+fn numbers(a: Answer) -> Numbers {
+    Numbers {
+        refusal: a.refusal,
+        kind: a.kind,
+        count: a.count,
+        kind2: 0,
+        count2: 0,
+    }
+}
