@@ -22,10 +22,13 @@ pub enum Source {
 }
 
 pub const NODES: [usize; 17] = [0, 1, 2, 3, 4, 3, 6, 7, 4, 8, 9, 4, 10, 6, 15, 8, 21];
+pub const TRI3: u64 = 5;
+pub const QUAD4: u64 = 8;
 pub const TET4: u64 = 11;
 pub const WEDGE6: u64 = 13;
 pub const WEDGE15: u64 = 14;
 pub const HEX8: u64 = 15;
+pub const HEX21: u64 = 16;
 pub const PLINE: u64 = 17;
 pub const PGON: u64 = 18;
 pub const PHED: u64 = 19;
@@ -111,7 +114,7 @@ fn paper_refusal(case: &Case) -> u64 {
                 return 6;
             }
             let wound = if *parameter == 2 {
-                matches!(*kind, 5 | 8 | PGON)
+                matches!(*kind, TRI3 | QUAD4 | PGON)
             } else {
                 *kind == PHED
             };

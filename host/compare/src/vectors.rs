@@ -11,18 +11,29 @@ use std::collections::BTreeMap;
 use std::process::ExitCode;
 
 use crate::case::{Case, Operation, Outcome};
-use crate::expected::{ELEMENT_LIMIT, PHED, Source, expected};
+use crate::expected::{ELEMENT_LIMIT, HEX21, PGON, PHED, QUAD4, Source, TRI3, WEDGE6, expected};
 use crate::{SEED, cases, lengths, with_lengths};
 
-/// So many calls of each sort are kept.
-const OF_A_SORT: usize = 6;
-/// Out of so many.
+/// So many calls are made to choose from.
 const CALLS: usize = 200_000;
 /// A stored call has at most so many ids, coordinates or entries, save at the limit of an element.
 const LONG: usize = 100;
 
-/// Operation, kind, parameter, refusal, source.
-type Sort = (Operation, u64, u64, u64, u8);
+/// Operation, kind, parameter, refusal, kind of the answer, source.
+type Sort = (Operation, u64, u64, u64, u64, u8);
+
+/// How many calls of a sort are kept: most where the rules have most cases.
+fn kept(operation: Operation, kind: u64, refusal: u64) -> usize {
+    use Operation::*;
+    match (refusal, operation, kind) {
+        (0, ToSimplexes | SplitBlock, WEDGE6..=HEX21) => 60,
+        (0, FromPoly, PHED) => 60,
+        (0, Reorient, TRI3 | QUAD4 | PGON | PHED) => 60,
+        (0, _, _) => 8,
+        (8..=18, _, _) => 40,
+        _ => 2,
+    }
+}
 
 pub fn write(file: &str) -> ExitCode {
     let mut sorts: BTreeMap<Sort, usize> = BTreeMap::new();
@@ -44,16 +55,27 @@ pub fn write(file: &str) -> ExitCode {
                 .max(lent.0)
                 .max(lent.1);
             let refusal = wanted.numbers.refusal;
-            let parameter = if source == Source::Paper {
-                0
-            } else {
-                case.parameter
+            let long = longest > LONG;
+            let parameter = match source {
+                _ if long => case.ids.len() as u64,
+                Source::Paper => 0,
+                _ => case.parameter,
             };
-            let seen = sorts
-                .entry((operation, case.kind, parameter, refusal, source as u8))
-                .or_default();
-            let short = longest <= LONG || at_limit(case, refusal);
-            if *seen < OF_A_SORT && short && case.kind < 65536 && case.parameter < 65536 {
+            let sort = (
+                operation,
+                case.kind,
+                parameter,
+                refusal,
+                wanted.numbers.kind,
+                source as u8,
+            );
+            let seen = sorts.entry(sort).or_default();
+            let wished = if long {
+                at_limit(case) as usize
+            } else {
+                kept(operation, case.kind, refusal)
+            };
+            if *seen < wished && case.kind < 65536 && case.parameter < 65536 {
                 *seen += 1;
                 put(&mut records, case, source, &wanted);
             }
@@ -64,12 +86,10 @@ pub fn write(file: &str) -> ExitCode {
     ExitCode::SUCCESS
 }
 
-/// The two longest calls: 4,096 entries pass, 4,097 do not.
-fn at_limit(case: &Case, refusal: u64) -> bool {
-    let n = case.ids.len();
-    case.operation == Operation::FromPoly
-        && case.kind == PHED
-        && (n == ELEMENT_LIMIT && refusal == 15 || n == ELEMENT_LIMIT + 1)
+/// The longest calls that are kept: 4,096 entries pass the limit, 4,097 do not.
+fn at_limit(case: &Case) -> bool {
+    let long = case.ids.len() == ELEMENT_LIMIT || case.ids.len() == ELEMENT_LIMIT + 1;
+    case.operation == Operation::FromPoly && case.kind == PHED && long
 }
 
 fn put(records: &mut Vec<u8>, case: &Case, source: Source, wanted: &Outcome) {
