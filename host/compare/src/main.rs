@@ -6,8 +6,10 @@
 
 mod case;
 mod cases;
+mod coordinates;
 mod expected;
 mod ours;
+mod polyhedra;
 mod random;
 mod vectors;
 
