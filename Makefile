@@ -1,7 +1,7 @@
 # make          prove and build all
 # make test     the whole test; its last line is 'N passed, 0 failed' only if all of it passed
 # make demo     cut the sample door and say what came out
-# make compare  compare every operation with the Rust that is ported, a million calls each
+# make compare  compare every operation with the Rust that is ported, two million calls each
 # make vectors  make the stored answers of the Rust anew, which `replay` replays
 # make fmt      lay out every Rattle file
 # make clean    remove what was built
@@ -23,6 +23,7 @@ demo: kit
 
 compare: all
 	@host/compare/run
+	@host/compare/check
 
 vectors: all
 	@host/compare/vectors
