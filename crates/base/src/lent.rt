@@ -36,10 +36,10 @@ pub fn gather_digits(ids: &[u64], row: &[u8], out: &mut [u64])
     requires { ⌜ length (now row) ≤ length (now out) ⌝ }
     ensures { λ _. ⌜ now (out .exit) ≡ overwrite (pick (now (ids .entry)) (undigit (now (row .entry)))) (now (out .entry)) ⌝ }
 {
-    let mut i = 0;
-    while i < row.len() {
-        out[i] = node(ids, corner_of(row[i]));
-        i += 1;
+    let mut at = 0;
+    while at < row.len() {
+        out[at] = node(ids, corner_of(row[at]));
+        at += 1;
     }
 }
 

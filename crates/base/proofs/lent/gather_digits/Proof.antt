@@ -21,17 +21,17 @@ loop-again : tie.Need-loop-again Inv-loop μ-loop
 loop-again c =
     let l = c .before .before .before .before in
     let a = l .before .before .before .before .args in
-    let h : l .loop .i < length (pick (a .ids .now) (undigit (a .row .now))) = rw length-undigit (search needs) in (
+    let h : l .loop .at < length (pick (a .ids .now) (undigit (a .row .now))) = rw length-undigit (search needs) in (
       search needs,
       simp length-set (search needs),
-      rw (l .loop .inv .2, c .node .ensures, c .before .corner-of .ensures, ← undigit-at (a .ids .now) (a .row .now) (l .loop .i) (search needs))
-          (front-more (pick (a .ids .now) (undigit (a .row .now))) (a .out .now) (l .loop .i) h (omega arith)),
+      rw (l .loop .inv .2, c .node .ensures, c .before .corner-of .ensures, ← undigit-at (a .ids .now) (a .row .now) (l .loop .at) (search needs))
+          (front-more (pick (a .ids .now) (undigit (a .row .now))) (a .out .now) (l .loop .at) h (omega arith)),
     )
 
 returns : tie.Need-returns Inv-loop μ-loop
 returns c =
     let a = c .before .before .before .before .before .args in
-    let e : c .before .loop .i ≡ length (pick (a .ids .now) (undigit (a .row .now))) = rw length-undigit (omega arith) in
+    let e : c .before .loop .at ≡ length (pick (a .ids .now) (undigit (a .row .now))) = rw length-undigit (omega arith) in
     c .before .loop .inv .2 ∙ front-whole _ _ _ e
 
 pub gather-digits-spec : {M : Type 1} → statement M
