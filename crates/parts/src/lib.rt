@@ -1,6 +1,6 @@
 // The parts of an element: its sub-entities by codimension, and its poly form.
-pub mod phed;
+mod phed;
 pub mod poly;
-pub mod polygon;
-pub mod rows;
+mod polygon;
+mod rows;
 pub mod subentities;
