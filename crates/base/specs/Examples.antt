@@ -35,8 +35,6 @@ examples =
     ∷ ex 11 (many 5000) 2 0
     ∷ ex 18 (separator ∷ many 4096) 2 4
     -- and a block at most 65,536 ids
-    ∷ ex 19 (many 65536) 2 0
-    ∷ ex 19 (many 65537) 2 2
     ∷ ex 11 (many 65536) 2 0
     ∷ ex 11 (many 65537) 2 2
     -- 3 before 4

@@ -1,6 +1,6 @@
 // The checks that every input passes first: refusals 1 to 4, in that order.
 ghost use mathlib.Core.Path.{_≡_};
-ghost use Rattle.base.specs.Checks.{blockFits, blockRefusal, elementFits, elementRefusal, holdsSeparator, inputRefusal, strays};
+ghost use Rattle.base.specs.Checks.{blockRefusal, elementRefusal, holdsSeparator, inputRefusal};
 use super::kinds::Kind;
 use super::kinds::is_kind;
 use super::kinds::node_count;
@@ -10,16 +10,23 @@ use super::refusals::Refusal;
 pub fn element_refusal(kind: u64, ids: &[u64]) -> u64
     ensures { λ r. ⌜ r ≡ elementRefusal kind (now (ids .entry)) ⌝ }
 {
-    let fits = element_fits(kind, ids.len());
-    input_refusal(kind, ids, Kind::ELEMENT_LIMIT, fits)
+    let nodes = node_count(kind);
+    if nodes == 0 {
+        let fits = (kind == Kind::PHED) | (0 < ids.len());
+        return input_refusal(kind, ids, Kind::ELEMENT_LIMIT, fits);
+    }
+    input_refusal(kind, ids, Kind::ELEMENT_LIMIT, ids.len() == nodes)
 }
 
 // The first of the refusals 1 to 4 that a block of one kind meets, or 0.
 pub fn block_refusal(kind: u64, ids: &[u64]) -> u64
     ensures { λ r. ⌜ r ≡ blockRefusal kind (now (ids .entry)) ⌝ }
 {
-    let fits = block_fits(kind, ids.len());
-    input_refusal(kind, ids, Kind::BLOCK_LIMIT, fits)
+    let nodes = node_count(kind);
+    if nodes == 0 {
+        return input_refusal(kind, ids, Kind::BLOCK_LIMIT, true);
+    }
+    input_refusal(kind, ids, Kind::BLOCK_LIMIT, ids.len() % nodes == 0)
 }
 
 // What the two share: the limit and the verdict on the node count differ.
@@ -35,42 +42,13 @@ fn input_refusal(kind: u64, ids: &[u64], limit: usize, fits: bool) -> u64
     if !fits {
         return Refusal::WRONG_NODE_COUNT;
     }
-    if strays(kind, ids) {
+    if kind == Kind::PHED {
+        return 0;
+    }
+    if holds_separator(ids) {
         return Refusal::STRAY_SEPARATOR;
     }
     0
-}
-
-// Whether one element of the kind may have n entries.
-fn element_fits(kind: u64, n: usize) -> bool
-    ensures { λ r. ⌜ r ≡ elementFits kind n ⌝ }
-{
-    let nodes = node_count(kind);
-    if nodes == 0 {
-        return kind == Kind::PHED || 0 < n;
-    }
-    n == nodes
-}
-
-// Whether a block of the kind may have n ids.
-fn block_fits(kind: u64, n: usize) -> bool
-    ensures { λ r. ⌜ r ≡ blockFits kind n ⌝ }
-{
-    let nodes = node_count(kind);
-    if nodes == 0 {
-        return true;
-    }
-    n % nodes == 0
-}
-
-// Whether a separator stands where the kind has none.
-fn strays(kind: u64, ids: &[u64]) -> bool
-    ensures { λ r. ⌜ r ≡ strays kind (now (ids .entry)) ⌝ }
-{
-    if kind == Kind::PHED {
-        return false;
-    }
-    holds_separator(ids)
 }
 
 // Whether a separator stands in the list. The whole list is read with no early end, so that the

@@ -61,7 +61,7 @@ fn corner_of(digit: u8) -> usize
     if digit < 48 {
         return 0;
     }
-    wide(digit - 48)
+    (digit - 48) as usize
 }
 
 fn wide(corner: u8) -> usize
