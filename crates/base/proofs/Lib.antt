@@ -5,3 +5,4 @@ pub mod Picks
 pub mod Tables
 pub mod Settle
 pub mod Accepted
+mod Examples

@@ -2,4 +2,3 @@ pub mod Kinds
 pub mod Checks
 pub mod Outcome
 pub mod Gather
-pub mod Examples

@@ -2,3 +2,4 @@
 pub mod Parts
 pub mod Promised
 pub mod Halves
+mod Examples

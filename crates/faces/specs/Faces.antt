@@ -1,6 +1,6 @@
 -- The faces of a PHED: the runs of its list between separators, empty ones left out.
 use Prim.Native.Nat.{ℕ, suc, _+_, _-_}
-use mathlib.Core.List.{List, [], _∷_}
+use mathlib.Core.List.{List, [], _∷_, _++_}
 use mathlib.Core.Bool.{Bool, true, false, not, cond}
 use lib.ListN.{take, drop}
 use lib.Dec.{eqb}
@@ -55,3 +55,13 @@ nextFace l at = record { start = startOf l at; end = endOf l at }
 -- the entries from s up to e
 abbrev pub part : List ℕ → ℕ → ℕ → List ℕ
 part l s e = take (e - s) (drop s l)
+
+-- lists behind others, x before each
+unfoldable pub further : ℕ → List (List ℕ) → List ℕ
+further x [] = []
+further x (f ∷ fs) = x ∷ f ++ further x fs
+
+-- lists in one, x between two
+unfoldable pub joined : ℕ → List (List ℕ) → List ℕ
+joined x [] = []
+joined x (f ∷ fs) = f ++ further x fs

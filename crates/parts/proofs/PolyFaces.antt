@@ -1,7 +1,7 @@
 -- The faces of a cell's poly form: the sub-entities of codimension 1, each a cycle, with every edge there exactly twice.
 use mathlib.Core.Path.{_≡_, refl, ap, _∙_}
 use mathlib.Core.Bool.{Bool, true, false, cond, _&&_, _||_}
-use mathlib.Core.List.{List, [], _∷_, _++_, map}
+use mathlib.Core.List.{List, [], _∷_, _++_, append-nil, map}
 use Prim.Native.Nat.{ℕ, zero, suc, _≤_, _<_}
 use native.Mathlib.Omega.{arith}
 use lib.Dec.{eqb, ltb}
@@ -13,9 +13,9 @@ use Rattle.base.specs.Kinds.{separator, nodesOf}
 use Rattle.base.proofs.Accepted.{element-accepted, element-nodes}
 use Rattle.base.proofs.Picks.{length-pick, pick-append}
 use Rattle.base.proofs.Tests.{and-true}
-use Rattle.faces.specs.Faces.{Runs, onto, runs, lead, full, faces}
+use Rattle.faces.specs.Faces.{Runs, onto, runs, lead, full, faces, further, joined}
 use Rattle.parts.specs.Tables.{partsOf, tableOf}
-use Rattle.parts.specs.Poly.{polyParts, rowsOf, joined, polyIds}
+use Rattle.parts.specs.Poly.{polyParts, rowsOf, polyIds}
 
 -- HEX8's poly form has its sub-entities in the order 0 1 2 4 3 5; TET4 and WEDGE6 have them as they stand
 pub tet-rows : rowsOf (polyParts 11) ≡ rowsOf (partsOf 11 1)
@@ -63,9 +63,9 @@ lead-some (x ∷ f) fs h = refl
 
 -- faces joined by separators are read back
 faces-joined : (fs : List (List ℕ)) → Clean fs → faces (joined separator fs) ≡ fs
-unfolding faces full runs
+unfolding faces full runs joined further
 faces-joined [] c = refl
-faces-joined (f ∷ []) c = rw (run-alone f (c .1)) (lead-some f [] (c .0))
+faces-joined (f ∷ []) c = rw (append-nil f, run-alone f (c .1)) (lead-some f [] (c .0))
 faces-joined (f ∷ g ∷ fs) c =
     rw (run-then f (joined separator (g ∷ fs)) (c .1))
     (lead-some f (faces (joined separator (g ∷ fs))) (c .0) ∙ ap (λ (gs : List (List ℕ)). f ∷ gs) (faces-joined (g ∷ fs) (c .2)))
@@ -110,13 +110,16 @@ module _ (ids : List ℕ) (clean : holdsSeparator ids ≡ false) where
       (rw length-pick (ltb-true 0 (length row) (u .0)), clean-pick row (u .1), clean-rows rows (t .1))
 
 -- corner 10 of a cell of at most 10 nodes is the separator
-pick-joined : (ids : List ℕ) → length ids ≤ 10 → (rows : List (List ℕ)) → pick ids (joined 10 rows) ≡ joined separator (map (pick ids) rows)
-unfolding pick
-pick-joined ids h [] = refl
-pick-joined ids h (f ∷ []) = refl
-pick-joined ids h (f ∷ g ∷ rows) =
-    pick-append ids f (10 ∷ joined 10 (g ∷ rows))
-    ∙ rw (List·getD-eq-default ids separator h, pick-joined ids h (g ∷ rows))
+module _ (ids : List ℕ) (few : length ids ≤ 10) where
+  pick-further : (rows : List (List ℕ)) → pick ids (further 10 rows) ≡ further separator (map (pick ids) rows)
+  unfolding pick further
+  pick-further [] = refl
+  pick-further (f ∷ rows) = rw (List·getD-eq-default ids separator few, pick-append ids f (further 10 rows), pick-further rows)
+
+  pick-joined : (rows : List (List ℕ)) → pick ids (joined 10 rows) ≡ joined separator (map (pick ids) rows)
+  unfolding pick joined
+  pick-joined [] = refl
+  pick-joined (f ∷ rows) = rw (pick-append ids f (further 10 rows), pick-further rows)
 
 -- TET4, WEDGE6 and HEX8
 pub data Solid : ℕ → Type 0 where

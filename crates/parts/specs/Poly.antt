@@ -9,6 +9,7 @@ use Rattle.base.specs.Gather.{pick, digits}
 use Rattle.base.specs.Kinds.{nodesOf}
 use Rattle.base.specs.Outcome.{Outcome, orElse, settle}
 use Rattle.base.specs.declared.refusals.Answer.{Answer}
+use Rattle.faces.specs.Faces.{joined}
 use Rattle.parts.specs.Tables.{Part, partsOf, quad4s}
 
 -- the kind of the poly form, by kind from 0; 0 where there is none
@@ -35,12 +36,6 @@ polyParts kind = cond (eqb kind 15) (quad4s (0321 ∷ 4567 ∷ 0154 ∷ 1265 ∷
 abbrev pub rowsOf : List Part → List (List ℕ)
 rowsOf [] = []
 rowsOf (p ∷ ps) = map (digits (nodesOf (p .kind))) (p .rows) ++ rowsOf ps
-
--- lists one after another with x between them, none at the end
-abbrev pub joined : ℕ → List (List ℕ) → List ℕ
-joined x [] = []
-joined x (f ∷ []) = f
-joined x (f ∷ g ∷ fs) = f ++ x ∷ joined x (g ∷ fs)
 
 -- TET4, WEDGE6 and HEX8 by their faces, corner 10, which none of them has, for the separator; others as they are
 unfoldable pub polyIds : ℕ → List ℕ → List ℕ

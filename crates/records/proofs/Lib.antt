@@ -5,3 +5,4 @@ pub mod Bytes
 pub mod Decimals
 pub mod Frames
 pub mod Lines
+mod Examples

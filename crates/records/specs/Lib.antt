@@ -2,4 +2,3 @@ pub mod Place
 pub mod Wire
 pub mod Frame
 pub mod Text
-pub mod Examples

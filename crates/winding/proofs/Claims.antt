@@ -8,11 +8,11 @@ use lib.Dec.{T, eqb}
 use lib.Ieee.{Float, lt}
 use borrow.Author.Tests.{eqb-true, ne-eqb}
 use Rattle.base.specs.Kinds.{separator}
-use Rattle.faces.specs.Faces.{onto, runs, lead, full, faces}
+use Rattle.faces.specs.Faces.{onto, runs, lead, full, faces, joined, further}
 use Rattle.winding.specs.Turn.{turned}
 use Rattle.winding.specs.Plane.{zero64, signedArea2, woundInPlane}
 use Rattle.winding.specs.Reference.{referenceOf}
-use Rattle.winding.specs.Space.{looksIn, outward, further, joined, woundInSpace}
+use Rattle.winding.specs.Space.{looksIn, outward, woundInSpace}
 use Rattle.winding.specs.Reorient.{turnsInPlane, turnsInSpace, reoriented}
 use Rattle.winding.specs.Claims.{ReversedExactly, ReversedTwice, times, SameIds}
 use Rattle.winding.proofs.Grid.{area-exact}
@@ -60,12 +60,12 @@ module _ (id : ℕ) where
   total-lead (x ∷ f) fs = refl
 
   module _ (apart : id ≡ separator → ⊥) where
-    total-further : (fs : List (List ℕ)) → times id (further fs) ≡ total fs
+    total-further : (fs : List (List ℕ)) → times id (further separator fs) ≡ total fs
     unfolding further times
     total-further [] = refl
-    total-further (f ∷ fs) = simp (ne-eqb id separator apart) (omega (arith, times-append f (further fs), total-further fs))
+    total-further (f ∷ fs) = simp (ne-eqb id separator apart) (omega (arith, times-append f (further separator fs), total-further fs))
 
-    total-joined : (fs : List (List ℕ)) → times id (joined fs) ≡ total fs
+    total-joined : (fs : List (List ℕ)) → times id (joined separator fs) ≡ total fs
     unfolding joined times
     total-joined [] = refl
     total-joined (f ∷ fs) = rw times-append (omega (arith, total-further fs))

@@ -11,8 +11,7 @@ use borrow.Author.Tests.{ne-eqb}
 use lib.ListN.{length, take, drop, set, take-append-drop, length-append, length-drop}
 use lib.Seq.{paste, take-all, take-suc-set, drop-set-lt, append-snoc, take-at, drop-append-add, drop-drop, length-take-le}
 use Rattle.base.specs.Kinds.{separator}
-use Rattle.faces.specs.Faces.{lead, part}
-use Rattle.winding.specs.Space.{joined, further}
+use Rattle.faces.specs.Faces.{lead, part, joined, further}
 use Rattle.winding.specs.Scan.{piece, splice}
 
 pub empty : (l : List ℕ) → length l ≡ 0 → l ≡ []
@@ -59,10 +58,10 @@ piece-size (suc at) (x ∷ xs) =
 -- ---- what faces add behind so many entries
 
 abbrev pub behind : ℕ → List (List ℕ) → List ℕ
-behind zero fs = joined fs
-behind (suc n) fs = further fs
+behind zero fs = joined separator fs
+behind (suc n) fs = further separator fs
 
-behind-some : (n : ℕ) (fs : List (List ℕ)) → 0 < n → behind n fs ≡ further fs
+behind-some : (n : ℕ) (fs : List (List ℕ)) → 0 < n → behind n fs ≡ further separator fs
 behind-some zero fs h = absurd (omega arith)
 behind-some (suc n) fs h = refl
 
@@ -90,12 +89,12 @@ module _ (g : List ℕ → List ℕ) (keeps : (f : List ℕ) → length (g f) �
       go [] e = absurd (omega arith)
       go (y ∷ ys) e = refl
 
-  further-length : (fs : List (List ℕ)) → length (further (map g fs)) ≡ length (further fs)
+  further-length : (fs : List (List ℕ)) → length (further separator (map g fs)) ≡ length (further separator fs)
   unfolding further
   further-length [] = refl
   further-length (f ∷ fs) = simp length-append (omega (arith, keeps f, further-length fs))
 
-  pub joined-length : (fs : List (List ℕ)) → length (joined (map g fs)) ≡ length (joined fs)
+  pub joined-length : (fs : List (List ℕ)) → length (joined separator (map g fs)) ≡ length (joined separator fs)
   unfolding joined
   joined-length [] = refl
   joined-length (f ∷ fs) = simp length-append (omega (arith, keeps f, further-length fs))

@@ -10,3 +10,4 @@ pub mod Passed
 pub mod Whole
 pub mod Grid
 pub mod Claims
+mod Examples

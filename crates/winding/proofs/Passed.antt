@@ -9,17 +9,17 @@ use lib.ListN.{length}
 use lib.Seq.{paste, take-all}
 use lib.Ieee.{Float, lt}
 use borrow.Author.Tests.{eqb-true, eqb-false, ne-eqb}
-use Rattle.base.specs.Kinds.{elementLimit}
+use Rattle.base.specs.Kinds.{elementLimit, separator}
 use Rattle.base.specs.Checks.{elementRefusal, strays}
 use Rattle.base.specs.Outcome.{overwrite}
 use Rattle.base.proofs.Accepted.{element-accepted}
 use Rattle.base.proofs.Tests.{and-true}
-use Rattle.faces.specs.Faces.{faces}
+use Rattle.faces.specs.Faces.{faces, joined}
 use Rattle.winding.specs.Turn.{turned}
 use Rattle.winding.specs.Points.{pointsFit, pointCount, lacksPoint, Placed}
 use Rattle.winding.specs.Plane.{zero64, signedArea2, woundInPlane}
 use Rattle.winding.specs.Reference.{referenceOf}
-use Rattle.winding.specs.Space.{joined, looksIn, outward, woundInSpace}
+use Rattle.winding.specs.Space.{looksIn, outward, woundInSpace}
 use Rattle.winding.specs.Reorient.{turnsInPlane, turnsInSpace, hasNoRule, wantsPoint, reorientRefusal, reoriented, answerSize}
 use Rattle.winding.proofs.Turned.{length-turned}
 use Rattle.winding.proofs.Points.{placed-all}
@@ -98,7 +98,7 @@ length-in-plane : (points : List Float) (ids : List ℕ) → length (woundInPlan
 unfolding woundInPlane
 length-in-plane points ids = length-turned (lt (signedArea2 points ids) zero64) ids
 
-length-in-space : (points : List Float) (ids : List ℕ) → length (woundInSpace points ids) ≡ length (joined (faces ids))
+length-in-space : (points : List Float) (ids : List ℕ) → length (woundInSpace points ids) ≡ length (joined separator (faces ids))
 unfolding woundInSpace
 length-in-space points ids =
     let reference = referenceOf points ids in
@@ -110,7 +110,7 @@ unfolding reoriented answerSize
 answer-length kind ids dimension points = go (turnsInSpace kind dimension) (turnsInPlane kind dimension)
   where
     go : (s p : Bool) → length (cond s (woundInSpace points ids) (cond p (woundInPlane points ids) ids))
-        ≡ cond s (length (joined (faces ids))) (length ids)
+        ≡ cond s (length (joined separator (faces ids))) (length ids)
     go true p = length-in-space points ids
     go false true = length-in-plane points ids
     go false false = refl

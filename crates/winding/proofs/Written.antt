@@ -4,17 +4,17 @@ use mathlib.Core.List.{List, [], _++_, map, append-nil, append-assoc}
 use Prim.Native.Nat.{ℕ, _+_, _≤_}
 use native.Mathlib.Omega.{arith}
 use lib.ListN.{length, drop, length-append, length-drop}
+use Rattle.base.specs.Kinds.{separator}
 use Rattle.base.specs.Outcome.{overwrite}
 use Rattle.faces.specs.declared.Face.{Face}
-use Rattle.faces.specs.Faces.{faces, part}
+use Rattle.faces.specs.Faces.{faces, part, joined}
 use Rattle.faces.proofs.Walk.{Next, no-more}
-use Rattle.winding.specs.Space.{joined}
 use Rattle.winding.specs.Scan.{piece, splice}
 use Rattle.winding.proofs.Joined.{behind, behind-none, behind-lead, map-lead, piece-length, extends}
 
 module _ (g : List ℕ → List ℕ) (keeps : (f : List ℕ) → length (g f) ≡ length f) (ids out₀ : List ℕ) where
   abbrev pub Whole : List ℕ
-  Whole = joined (map g (faces ids))
+  Whole = joined separator (map g (faces ids))
 
   -- what the faces from a place on add to so many entries
   abbrev pub Rest : ℕ → ℕ → List ℕ

@@ -7,4 +7,3 @@ pub mod Scan
 pub mod Reorient
 pub mod Exact
 pub mod Claims
-pub mod Examples

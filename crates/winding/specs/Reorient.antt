@@ -5,13 +5,14 @@ use mathlib.Core.List.{List}
 use lib.Dec.{eqb}
 use lib.ListN.{length}
 use lib.Ieee.{Float}
+use Rattle.base.specs.Kinds.{separator}
 use Rattle.base.specs.Checks.{elementRefusal}
 use Rattle.base.specs.Outcome.{Outcome, orElse, settle}
 use Rattle.base.specs.declared.refusals.Answer.{Answer}
-use Rattle.faces.specs.Faces.{faces}
+use Rattle.faces.specs.Faces.{faces, joined}
 use Rattle.winding.specs.Points.{pointsFit, pointCount, lacksPoint}
 use Rattle.winding.specs.Plane.{woundInPlane}
-use Rattle.winding.specs.Space.{joined, woundInSpace}
+use Rattle.winding.specs.Space.{woundInSpace}
 
 -- TRI3, QUAD4 and PGON are wound in the plane
 unfoldable pub turnsInPlane : ℕ → ℕ → Bool
@@ -47,7 +48,7 @@ reoriented kind ids dimension points =
 
 -- how many entries that has
 unfoldable pub answerSize : ℕ → List ℕ → ℕ → ℕ
-answerSize kind ids dimension = cond (turnsInSpace kind dimension) (length (joined (faces ids))) (length ids)
+answerSize kind ids dimension = cond (turnsInSpace kind dimension) (length (joined separator (faces ids))) (length ids)
 
 -- the answer over the front of out, with the kind given and the number of entries
 abbrev pub reorientOutcome : ℕ → List ℕ → ℕ → List Float → List ℕ → Outcome Answer (List ℕ)

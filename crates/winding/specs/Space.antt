@@ -1,12 +1,12 @@
 -- Winding in space: each face of a polyhedron is turned so that it looks away from the reference point.
 use Prim.Native.Nat.{ℕ, zero, suc, _^_}
 use mathlib.Core.Bool.{Bool, true, false, cond}
-use mathlib.Core.List.{List, [], _∷_, _++_, map}
+use mathlib.Core.List.{List, [], _∷_, map}
 use lib.ListN.{getD}
 use lib.IntN.{pos}
 use lib.Ieee.{Float, nan, inf, fin, binary64, round, add, sub, mul, lt, ne}
 use Rattle.base.specs.Kinds.{separator}
-use Rattle.faces.specs.Faces.{faces}
+use Rattle.faces.specs.Faces.{faces, joined}
 use Rattle.faces.specs.Edges.{Edge, cycle}
 use Rattle.winding.specs.declared.point.Point.{Point}
 use Rattle.winding.specs.declared.point.Point.the-variants.{Plane, Space}
@@ -72,16 +72,6 @@ looksIn points reference face =
 abbrev pub outward : List Float → Vector → List ℕ → List ℕ
 outward points reference face = turned (looksIn points reference face) face
 
--- faces behind others, a separator before each
-unfoldable pub further : List (List ℕ) → List ℕ
-further [] = []
-further (f ∷ fs) = separator ∷ f ++ further fs
-
--- faces in one list, a separator between two
-unfoldable pub joined : List (List ℕ) → List ℕ
-joined [] = []
-joined (f ∷ fs) = f ++ further fs
-
 -- the faces, each looking out; empty runs are none, and no face gives an empty list
 unfoldable pub woundInSpace : List Float → List ℕ → List ℕ
-woundInSpace points ids = joined (map (λ (face : List ℕ). outward points (referenceOf points ids) face) (faces ids))
+woundInSpace points ids = joined separator (map (λ (face : List ℕ). outward points (referenceOf points ids) face) (faces ids))

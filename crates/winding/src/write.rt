@@ -8,9 +8,9 @@ ghost use lib.ListN.{length};
 ghost use lib.Seq.{paste};
 ghost use Rattle.base.specs.Kinds.{separator};
 ghost use Rattle.base.specs.Outcome.{overwrite};
-ghost use Rattle.faces.specs.Faces.{faces};
+ghost use Rattle.faces.specs.Faces.{faces, joined};
 ghost use Rattle.winding.specs.Points.{Placed, lacksPoint, pointCount};
-ghost use Rattle.winding.specs.Space.{joined, outward};
+ghost use Rattle.winding.specs.Space.{outward};
 ghost use Rattle.winding.specs.Turn.{turned};
 ghost use Rattle.winding.specs.Scan.{piece, splice};
 use super::point::Vector;
@@ -42,7 +42,7 @@ fn source(back: bool, n: usize, i: usize) -> usize
 
 // How many entries the faces take in one list, a separator between two.
 pub fn faces_size(ids: &[u64]) -> usize
-    ensures { λ r. ⌜ r ≡ length (joined (faces (now (ids .entry)))) ⌝ }
+    ensures { λ r. ⌜ r ≡ length (joined separator (faces (now (ids .entry)))) ⌝ }
 {
     let mut size = 0;
     let mut i = 0;
@@ -71,8 +71,8 @@ fn grown(size: usize, n: usize) -> usize
 // The faces, each looking away from the reference point, over the front of out.
 pub fn put_faces(points: &[f64], ids: &[u64], reference: Vector, out: &mut [u64])
     requires { ⌜ lacksPoint (pointCount 3 (length (now points))) (now ids) ≡ false ⌝ }
-    requires { ⌜ length (joined (faces (now ids))) ≤ length (now out) ⌝ }
-    ensures { λ _. ⌜ now (out .exit) ≡ overwrite (joined (map (outward (now (points .entry)) reference) (faces (now (ids .entry))))) (now (out .entry)) ⌝ }
+    requires { ⌜ length (joined separator (faces (now ids))) ≤ length (now out) ⌝ }
+    ensures { λ _. ⌜ now (out .exit) ≡ overwrite (joined separator (map (outward (now (points .entry)) reference) (faces (now (ids .entry))))) (now (out .entry)) ⌝ }
 {
     let mut at = 0;
     let mut i = 0;

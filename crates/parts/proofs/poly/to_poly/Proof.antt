@@ -4,6 +4,7 @@ use borrow.Author.Tests.{ne-eqb}
 use mathlib.Core.Path.{_≡_, refl, sym, _∙_}
 use Rattle.base.specs.Kinds.{nodesOf}
 use Rattle.base.proofs.Settle.{settle-refuses}
+use Rattle.faces.specs.Faces.{further, joined}
 use Rattle.parts.specs.Tables.{tableOf}
 use Rattle.parts.specs.Poly.{toPoly, polyRefusal, polyIds, polyKind}
 use Rattle.parts.proofs.poly.to_poly.Statement.{statement}
@@ -22,21 +23,21 @@ ok : (c : tie.Else1) →
 ok c = sym (c .before .poly-refusal .ensures) ∙ c .if1 .left
 
 returns-2 : tie.Need-returns-2
-unfolding toPoly polyIds polyKind tableOf nodesOf
+unfolding toPoly polyIds polyKind tableOf nodesOf joined further
 returns-2 c =
     let p = c .before .before in
     let t = p .before .before .before in
     rw (ok (t .before), t .if2 .taken) (p .write-phed .ensures)
 
 returns-3 : tie.Need-returns-3
-unfolding toPoly polyIds polyKind tableOf nodesOf
+unfolding toPoly polyIds polyKind tableOf nodesOf joined further
 returns-3 c =
     let p = c .before .before in
     let t = p .before .before .before in
     rw (ok (t .before .before), t .if3 .taken) (p .write-phed2 .ensures)
 
 returns-4 : tie.Need-returns-4
-unfolding toPoly polyIds polyKind tableOf nodesOf
+unfolding toPoly polyIds polyKind tableOf nodesOf joined further
 returns-4 c =
     let p = c .before .before in
     let t = p .before .before .before in

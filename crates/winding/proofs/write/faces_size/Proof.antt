@@ -7,9 +7,9 @@ use mathlib.Core.List.{List}
 use mathlib.Core.Bool.{cond}
 use lib.Dec.{eqb}
 use lib.ListN.{length, drop, length-append}
-use Rattle.faces.specs.Faces.{faces, part}
+use Rattle.base.specs.Kinds.{separator}
+use Rattle.faces.specs.Faces.{faces, part, joined}
 use Rattle.faces.proofs.Walk.{Next, next, no-more}
-use Rattle.winding.specs.Space.{joined}
 use Rattle.winding.specs.Scan.{piece}
 use Rattle.winding.proofs.Joined.{behind, behind-none, behind-lead, piece-size, piece-le, length-part}
 use Rattle.winding.proofs.write.faces_size.Statement.{statement}
@@ -17,7 +17,7 @@ use Rattle.winding.proofs.write.faces_size.Tie as tie
 
 abbrev Inv-loop : tie.InvT-loop
 Inv-loop ids size₀ i₀ size i =
-    (size ≤ 2 * i) × (i ≤ length ids) × (size + length (behind size (faces (drop i ids))) ≡ length (joined (faces ids)))
+    (size ≤ 2 * i) × (i ≤ length ids) × (size + length (behind size (faces (drop i ids))) ≡ length (joined separator (faces ids)))
 
 abbrev μ-loop : tie.MeasureT-loop
 μ-loop ids size₀ i₀ size i = length ids - i

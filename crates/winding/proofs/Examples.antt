@@ -9,12 +9,12 @@ use lib.ListN.{length}
 use lib.Ieee.{Float, fin, binary64, ofInt, ofBits, lt, ne, add, sub, mul, div, round}
 use Rattle.base.specs.Kinds.{separator, nodesOf}
 use Rattle.base.specs.Checks.{elementRefusal, inputRefusal, elementFits, strays, holdsSeparator}
-use Rattle.faces.specs.Faces.{faces, runs, full}
+use Rattle.faces.specs.Faces.{faces, runs, full, joined, further}
 use Rattle.faces.specs.Edges.{along, cycle}
 use Rattle.winding.specs.Points.{pointsFit, lacksPoint}
 use Rattle.winding.specs.Plane.{zero64, areaFrom, signedArea2, woundInPlane}
 use Rattle.winding.specs.Reference.{insert, rising, addPoint, sumFrom, referenceOf}
-use Rattle.winding.specs.Space.{addEdge, normalFrom, normalOf, dotFrom, looksIn, further, joined, woundInSpace}
+use Rattle.winding.specs.Space.{addEdge, normalFrom, normalOf, dotFrom, looksIn, woundInSpace}
 use Rattle.winding.specs.Reorient.{turnsInPlane, turnsInSpace, hasNoRule, wantsPoint, reorientRefusal, reoriented}
 
 -- ---- the halving
