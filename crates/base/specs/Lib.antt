@@ -2,3 +2,4 @@ pub mod Kinds
 pub mod Checks
 pub mod Outcome
 pub mod Gather
+pub mod Solids

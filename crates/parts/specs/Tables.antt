@@ -4,6 +4,7 @@ use mathlib.Core.List.{List, [], _∷_, _++_}
 use lib.ListN.{getD}
 use Rattle.base.specs.Kinds.{nodesOf}
 use Rattle.base.specs.Gather.{corners}
+use Rattle.base.specs.Solids.{tet4Tris, wedge6Tris, wedge6Quads, hex8Quads}
 
 -- some sub-entities of one kind: the kind, and the corners of each as digits
 pub record Part : Type 0 where
@@ -43,21 +44,21 @@ quad4 = seg2s (01 ∷ 12 ∷ 23 ∷ 30 ∷ []) ∷ vertices (0 ∷ 1 ∷ 2 ∷ 3
 
 abbrev tet4 : List (List Part)
 tet4 =
-    tri3s (013 ∷ 123 ∷ 203 ∷ 021 ∷ [])
+    tri3s tet4Tris
     ∷ seg2s (01 ∷ 02 ∷ 03 ∷ 12 ∷ 13 ∷ 23 ∷ [])
     ∷ vertices (0 ∷ 1 ∷ 2 ∷ 3 ∷ [])
     ∷ []
 
 abbrev wedge6 : List (List Part)
 wedge6 =
-    (tri3s (021 ∷ 345 ∷ []) ++ quad4s (0143 ∷ 1254 ∷ 2035 ∷ []))
+    (tri3s wedge6Tris ++ quad4s wedge6Quads)
     ∷ seg2s (01 ∷ 02 ∷ 03 ∷ 12 ∷ 14 ∷ 25 ∷ 34 ∷ 35 ∷ 45 ∷ [])
     ∷ vertices (0 ∷ 1 ∷ 2 ∷ 3 ∷ 4 ∷ 5 ∷ [])
     ∷ []
 
 abbrev hex8 : List (List Part)
 hex8 =
-    quad4s (0321 ∷ 4567 ∷ 0154 ∷ 2376 ∷ 1265 ∷ 3047 ∷ [])
+    quad4s hex8Quads
     ∷ seg2s (01 ∷ 03 ∷ 04 ∷ 12 ∷ 15 ∷ 23 ∷ 26 ∷ 37 ∷ 45 ∷ 47 ∷ 56 ∷ 67 ∷ [])
     ∷ vertices (0 ∷ 1 ∷ 2 ∷ 3 ∷ 4 ∷ 5 ∷ 6 ∷ 7 ∷ [])
     ∷ []

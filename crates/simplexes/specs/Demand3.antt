@@ -2,24 +2,25 @@
 use Prim.Native.Nat.{ℕ, _≤_, _<_}
 use mathlib.Core.Path.{_≡_}
 use mathlib.Core.Bool.{Bool, true, cond, _||_}
-use mathlib.Core.List.{List, [], _∷_, _++_}
+use mathlib.Core.List.{List, [], _∷_, _++_, map}
 use mathlib.Core.Logic.{_⊎_}
 use lib.Dec.{eqb}
 use lib.ListN.{length, getD}
 use Rattle.base.specs.Kinds.{nodesOf}
 use Rattle.base.specs.Gather.{pick, digits}
+use Rattle.base.specs.Solids.{tet4Tris, wedge6Tris, wedge6Quads, hex8Quads}
 use Rattle.simplexes.specs.Split.{split}
 use Rattle.simplexes.specs.Triangle.{Tri, flip, count, total, tetTris, faceTris}
 
--- the faces of the kinds that fill space, in the order and the winding of their sub-entities
+-- the corners of the faces of the kinds that fill space
 abbrev pub tetFaces : List (List ℕ)
-tetFaces = digits 3 013 ∷ digits 3 123 ∷ digits 3 203 ∷ digits 3 021 ∷ []
+tetFaces = map (digits 3) tet4Tris
 
 abbrev pub wedgeFaces : List (List ℕ)
-wedgeFaces = digits 3 021 ∷ digits 3 345 ∷ digits 4 0143 ∷ digits 4 1254 ∷ digits 4 2035 ∷ []
+wedgeFaces = map (digits 3) wedge6Tris ++ map (digits 4) wedge6Quads
 
 abbrev pub hexFaces : List (List ℕ)
-hexFaces = digits 4 0321 ∷ digits 4 4567 ∷ digits 4 0154 ∷ digits 4 2376 ∷ digits 4 1265 ∷ digits 4 3047 ∷ []
+hexFaces = map (digits 4) hex8Quads
 
 -- TET4, WEDGE6 and HEX8
 abbrev pub isSolid : ℕ → Bool
