@@ -81,7 +81,7 @@ extern "C" {
 #define TS_REFUSAL_NOT_IN_SECOND_TRIANGLE UINT64_C(13) /* the node found is not in the second triangle */
 #define TS_REFUSAL_OPEN_SURFACE           UINT64_C(14) /* one face length, and some edge not there exactly twice */
 #define TS_REFUSAL_NO_SUCH_SURFACE        UINT64_C(15) /* closed, but not 4 triangles or 6 quads */
-#define TS_REFUSAL_NO_FOURTH_NODE         UINT64_C(16) /* no fourth node */
+/* 16 is never given and stands for nothing: four triangles of a closed surface have a fourth node. */
 #define TS_REFUSAL_NO_OPPOSITE_FACE       UINT64_C(17) /* no face opposite the first */
 #define TS_REFUSAL_NO_SIDE_FACE           UINT64_C(18) /* no side face at a bottom edge */
 #define TS_REFUSAL_NO_POINT               UINT64_C(19) /* a needed id has no point */

@@ -441,13 +441,16 @@ static void no_side_face(void) {
     attack(c);
 }
 
-/* Every refusal is met in a long run, save 16, which no input meets. */
+/* The number that stands for no refusal. */
+enum { NEVER_GIVEN = 16 };
+
+/* Every refusal is met in a long run, and the number that stands for none never. */
 static void all_met(void) {
     for (int r = 1; r <= 21; r++) {
         uint64_t met = 0;
         for (int operation = 0; operation < OPERATIONS; operation++)
             met += refusals[operation][r];
-        if ((met == 0) != (r == TS_REFUSAL_NO_FOURTH_NODE)) {
+        if ((met == 0) != (r == NEVER_GIVEN)) {
             fprintf(stderr, "hostile: refusal %d was met %" PRIu64 " times\n", r, met);
             exit(1);
         }

@@ -37,8 +37,7 @@ impl Refusal {
     pub const OPEN_SURFACE: u64 = 14;
     // Closed, but not 4 triangles or 6 quads.
     pub const NO_SUCH_SURFACE: u64 = 15;
-    // No fourth node.
-    pub const NO_FOURTH_NODE: u64 = 16;
+    // 16 is never given: four triangles of a closed surface have a fourth node.
     // No face opposite the first.
     pub const NO_OPPOSITE_FACE: u64 = 17;
     // No side face at a bottom edge.

@@ -4,3 +4,5 @@ pub mod Pairs
 pub mod Flat
 pub mod Nodes
 pub mod Found
+pub mod Never
+pub mod Claims

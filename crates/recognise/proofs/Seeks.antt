@@ -1,18 +1,18 @@
 -- Laws of a search that has come to place k and ends before m, where r is what the whole search finds; and of the search
 -- for the fourth node of a tetrahedron.
 use Prim.Native.Nat.{ℕ, suc, _+_, _-_, _≤_, _<_}
-use mathlib.Core.Path.{_≡_, _∙_}
-use mathlib.Core.List.{List, [], _∷_}
-use mathlib.Core.Bool.{Bool, true, false, cond, _||_}
+use mathlib.Core.Path.{_≡_, refl, _∙_}
+use mathlib.Core.List.{List}
+use mathlib.Core.Bool.{Bool, true, false, _&&_}
 use native.Mathlib.Numerals.{add-one}
 use native.Mathlib.Omega.{arith}
-use lib.Dec.{eqb}
-use lib.ListN.{length, getD, drop, drop-of-length-le}
+use lib.Dec.{ltb}
+use lib.ListN.{length, getD, drop, drop-of-length-le, List·getD-eq-default}
 use lib.Seq.{drop-cons}
+use borrow.Author.Tests.{ltb-true, ltb-false}
 use Rattle.base.specs.Kinds.{separator}
-use Rattle.recognise.specs.Cells.{cell, none}
 use Rattle.recognise.specs.Seek.{seek}
-use Rattle.recognise.specs.Tet.{fourth}
+use Rattle.recognise.specs.Tet.{inTriangle, fourth}
 
 module _ (test : ℕ → Bool) (k m r : ℕ) (come : seek test k (m - k) ≡ r) where
   one-left : k < m → m - k ≡ suc (m - suc k)
@@ -33,14 +33,27 @@ module _ (test : ℕ → Bool) (k m r : ℕ) (come : seek test k (m - k) ≡ r) 
       let e : m ≡ k = omega arith in
       e ∙ (rw z at come)
 
--- the node at m is one of a, b, c, or else the fourth
-pub fourth-step : (a b c m : ℕ) (nodes : List ℕ) (b' : Bool) → m < length nodes
-    → (eqb (getD nodes m separator) a || (eqb (getD nodes m separator) b || eqb (getD nodes m separator) c)) ≡ b'
-    → fourth a b c (drop m nodes)
-    ≡ cond b' (fourth a b c (drop (m + 1) nodes)) (cell 11 (a ∷ b ∷ c ∷ getD nodes m separator ∷ []))
-unfolding fourth
-fourth-step a b c m nodes b' h t = rw (drop-cons nodes m separator h, t, add-one)
+-- what a node at m in the triangle a b c leaves to search, and where the search ends
+module _ (a b c m : ℕ) (nodes : List ℕ) where
+  pub fourth-on : m < length nodes → inTriangle a b c (getD nodes m separator) ≡ true
+      → fourth a b c (drop m nodes) ≡ fourth a b c (drop (m + 1) nodes)
+  unfolding fourth
+  fourth-on h t = rw (drop-cons nodes m separator h, t, add-one)
 
-pub fourth-end : (a b c m : ℕ) (nodes : List ℕ) → length nodes ≤ m → fourth a b c (drop m nodes) ≡ none 16
-unfolding fourth
-fourth-end a b c m nodes h = rw (drop-of-length-le nodes h)
+  fourth-here : m < length nodes → inTriangle a b c (getD nodes m separator) ≡ false
+      → fourth a b c (drop m nodes) ≡ getD nodes m separator
+  unfolding fourth
+  fourth-here h t = rw (drop-cons nodes m separator h, t)
+
+  fourth-none : length nodes ≤ m → fourth a b c (drop m nodes) ≡ getD nodes m separator
+  unfolding fourth
+  fourth-none h = rw (drop-of-length-le nodes h, List·getD-eq-default nodes separator h)
+
+  pub fourth-end : (ltb m (length nodes) && inTriangle a b c (getD nodes m separator)) ≡ false
+      → fourth a b c (drop m nodes) ≡ getD nodes m separator
+  fourth-end t = go (ltb m (length nodes)) refl t
+    where
+      go : (s : Bool) → ltb m (length nodes) ≡ s → (s && inTriangle a b c (getD nodes m separator)) ≡ false
+          → fourth a b c (drop m nodes) ≡ getD nodes m separator
+      go true e t = fourth-here (ltb-true m (length nodes) e) t
+      go false e t = fourth-none (ltb-false m (length nodes) e)

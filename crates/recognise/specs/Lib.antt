@@ -7,4 +7,5 @@ pub mod Wedge
 pub mod Brick
 pub mod Recognise
 pub mod FromPoly
+pub mod Claims
 pub mod Examples

@@ -273,7 +273,8 @@ fn mended(case: &Case, mut outcome: Outcome) -> Outcome {
     outcome
 }
 
-/// The number of document 01 for an error of `from_poly`.
+/// The number of document 01 for an error of `from_poly`. That of the missing fourth node, 16, is not among them: no
+/// input meets it, and one that did would end the comparison.
 fn refusal_of_error(words: &str) -> u64 {
     let numbers = [
         ("PLINE with", 9),
@@ -283,7 +284,6 @@ fn refusal_of_error(words: &str) -> u64 {
         ("No match found", 12),
         ("Edge ", 14),
         ("PHED with", 15),
-        ("Could not find 4th node", 16),
         ("Could not find opposite face", 17),
         ("Could not find side face", 18),
     ];

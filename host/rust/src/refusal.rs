@@ -33,8 +33,8 @@ pub enum Refusal {
     NotInSecondTriangle,
     OpenSurface,
     NoSuchSurface,
-    NoFourthNode,
-    NoOppositeFace,
+    // 16 is never given.
+    NoOppositeFace = 17,
     NoSideFace,
     NoPoint,
     WrongPoints,
@@ -42,8 +42,8 @@ pub enum Refusal {
 }
 
 impl Refusal {
-    /// Every refusal, in the order of the numbers, which begin at 1.
-    pub const ALL: [Refusal; 21] = [
+    /// Every refusal, in the order of the numbers: 1 to 21 without 16, which is never given.
+    pub const ALL: [Refusal; 20] = [
         Refusal::UnknownKind,
         Refusal::TooManyEntries,
         Refusal::WrongNodeCount,
@@ -59,7 +59,6 @@ impl Refusal {
         Refusal::NotInSecondTriangle,
         Refusal::OpenSurface,
         Refusal::NoSuchSurface,
-        Refusal::NoFourthNode,
         Refusal::NoOppositeFace,
         Refusal::NoSideFace,
         Refusal::NoPoint,
@@ -111,7 +110,6 @@ impl fmt::Display for Refusal {
             Refusal::NotInSecondTriangle => "the quad at the first triangle does not lead to the second: check the ids of the three quads",
             Refusal::OpenSurface => "some edge is not there exactly twice: close the surface",
             Refusal::NoSuchSurface => "the surface is closed, but not of 4 triangles or 6 quads: it is no tetrahedron and no brick",
-            Refusal::NoFourthNode => "the four triangles have no fourth node: check their ids",
             Refusal::NoOppositeFace => "every face shares a node with the first: a brick needs one opposite",
             Refusal::NoSideFace => "an edge of the first face has no side face: check the ids of the quads",
             Refusal::NoPoint => "an id has no point: give a point for every id that is wound",

@@ -217,10 +217,13 @@ fn numbers_and_words() {
     for (i, kind) in Kind::ALL.iter().enumerate() {
         assert_eq!(Kind::try_from(i as u64 + 1), Ok(*kind));
     }
-    for (i, refusal) in Refusal::ALL.iter().enumerate() {
-        assert_eq!(Refusal::try_from(i as u64 + 1), Ok(*refusal));
+    let numbers = (1..=21).filter(|number| *number != 16);
+    assert_eq!(numbers.clone().count(), Refusal::ALL.len());
+    for (number, refusal) in numbers.zip(Refusal::ALL) {
+        assert_eq!(Refusal::try_from(number), Ok(refusal));
         assert!(refusal.to_string().len() > 20);
     }
+    assert_eq!(Refusal::try_from(16), Err(16));
     assert_eq!(Kind::try_from(0), Err(Refusal::UnknownKind));
     assert_eq!(Refusal::try_from(0), Err(0));
     assert_eq!(Refusal::try_from(22), Err(22));
