@@ -1,5 +1,5 @@
 -- Laws of tests that the checker computes, and of the tables of rows.
-use mathlib.Core.Path.{_≡_, refl, sym, ap, subst}
+use mathlib.Core.Path.{_≡_, refl, sym, ap, ap₂, subst}
 use mathlib.Core.Bool.{Bool, true, false, _&&_, _||_}
 use mathlib.Core.List.{List, [], _∷_, map, append-nil}
 use Prim.Native.Nat.{ℕ, zero, suc, _-_, _≤_, _<_, min}
@@ -45,6 +45,20 @@ pub all-at : (test : ℕ → Bool) (xs : List ℕ) → T (all test xs) → (k : 
 all-at test [] h k l = absurd (not-suc-le-zero l)
 all-at test (x ∷ xs) h zero l = and-left (test x) (all test xs) h
 all-at test (x ∷ xs) h (suc k) l = all-at test xs (and-right (test x) (all test xs) h) k (le-of-suc-le-suc l)
+
+-- two lists are equal, as a test
+abbrev pub eqs : List ℕ → List ℕ → Bool
+eqs [] [] = true
+eqs [] (y ∷ ys) = false
+eqs (x ∷ xs) [] = false
+eqs (x ∷ xs) (y ∷ ys) = eqb x y && eqs xs ys
+
+pub eqs-eq : (xs ys : List ℕ) → T (eqs xs ys) → xs ≡ ys
+eqs-eq [] [] h = refl
+eqs-eq [] (y ∷ ys) h = absurd h
+eqs-eq (x ∷ xs) [] h = absurd h
+eqs-eq (x ∷ xs) (y ∷ ys) h =
+    ap₂ (λ (x : ℕ) (xs : List ℕ). x ∷ xs) (eqb→eq x y (and-left (eqb x y) (eqs xs ys) h)) (eqs-eq xs ys (and-right (eqb x y) (eqs xs ys) h))
 
 abbrev pub mem : ℕ → List ℕ → Bool
 mem x [] = false

@@ -3,4 +3,6 @@ pub mod Rows
 pub mod Split
 pub mod Triangle
 pub mod Demand3
+pub mod Table
+pub mod Strings
 pub mod Examples

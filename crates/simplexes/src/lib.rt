@@ -11,8 +11,9 @@ use base::refusals::Refusal;
 use cells::write_cell;
 
 pub mod cells;
-mod rows;
 mod smallest;
+pub mod solids;
+pub mod tables;
 
 // The simplexes of one cell: their kind, their number, and their ids from the front, 0 in the places
 // that are left. The kind is 0 where there is no rule.

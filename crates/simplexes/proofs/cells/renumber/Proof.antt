@@ -3,8 +3,8 @@ use borrow.Author.Needs.{needs}
 use mathlib.Core.Path.{_≡_, _∙_, ap}
 use Prim.Native.Nat.{ℕ}
 use lib.ListN.{length}
-use Rattle.base.specs.Gather.{pick, digits}
-use Rattle.base.proofs.Picks.{length-pick}
+use Rattle.base.specs.Gather.{pick, digits, undigit}
+use Rattle.base.proofs.Picks.{length-undigit}
 use Rattle.simplexes.specs.Rows.{branch, renumberings}
 use Rattle.simplexes.proofs.Laws.{fills}
 use Rattle.simplexes.proofs.cells.renumber.Statement.{statement}
@@ -16,8 +16,8 @@ returns c =
     let corners = r .renumbering .result in
     let ids = r .before .before .before .args .ids .now in
     let eight : length corners ≡ 8 = search needs in
-    c .before .gather .ensures
-    ∙ fills (pick ids corners) _ (length-pick ids corners ∙ eight)
+    c .before .gather-digits .ensures
+    ∙ fills (pick ids (undigit corners)) _ (length-undigit ids corners ∙ eight)
     ∙ ap (pick ids) (r .renumbering .ensures ∙ ap (λ (k : ℕ). digits 8 (branch renumberings 0 k)) (r .before .smallest .ensures))
 
 pub renumber-spec : {M : Type 1} → statement M

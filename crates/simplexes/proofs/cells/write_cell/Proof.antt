@@ -1,6 +1,7 @@
 -- `cells::write_cell` meets its contract: each branch knows the kind's family, and writes its simplexes.
 use borrow.Author.Needs.{needs}
 use mathlib.Core.Path.{refl, sym}
+use mathlib.Core.List.{[], _∷_}
 use native.Mathlib.Omega.{arith}
 use Rattle.simplexes.specs.Rows.{tetRows}
 use Rattle.simplexes.specs.Split.{wedgeCut, hexCut}
@@ -30,25 +31,25 @@ write-cell-spec =
     let s = c .before .before .before .before .before .before .before .before in
     let kind = s .args .kind in
     let ids = s .args .ids .now in
-    row-room kind ids _ (wedgeCut ids .rows) (wedge-is kind ids (omega arith) (omega arith)) _ (s .args .out .now) (c .before .before .wedge-corners .ensures) (s .pre))
+    row-room kind ids _ (wedgeCut ids .rows) (wedge-is kind ids (omega arith) (omega arith)) (c .before .before .wedge-corners .result) (s .args .out .now) (c .before .before .wedge-corners .ensures) (s .pre))
     (λ c. search needs)
     (λ c.
     let s = c .before .before .before .before .before .before .before .before .before .before .before in
     let kind = s .args .kind in
     let ids = s .args .ids .now in
-    row-written kind ids _ (wedgeCut ids .rows) (wedge-is kind ids (omega arith) (omega arith)) _ (s .args .out .now) (c .before .before .before .before .before .wedge-corners .ensures) _ _ (sym (three-rows ids)) (c .before .before .gather .ensures))
+    row-written kind ids _ (wedgeCut ids .rows) (wedge-is kind ids (omega arith) (omega arith)) (c .before .before .before .before .before .wedge-corners .result) (s .args .out .now) (c .before .before .before .before .before .wedge-corners .ensures) _ _ (sym (three-rows ids)) (c .before .before .gather-digits .ensures))
     (λ c. search needs)
     (λ c κs.
-    let s = c .before .before .before .before .before .before .before .before in
+    let s = c .before .before .before .before .before .before .before .before .before .before in
     let kind = s .args .kind in
     let ids = s .args .ids .now in
-    row-room kind ids _ (tetRows) (tet-is kind ids (omega arith) (omega arith)) _ (s .args .out .now) refl (s .pre))
+    row-room kind ids _ (tetRows) (tet-is kind ids (omega arith) (omega arith)) (48 ∷ 49 ∷ 50 ∷ 51 ∷ []) (s .args .out .now) refl (s .pre))
     (λ c. search needs)
     (λ c.
-    let s = c .before .before .before .before .before .before .before .before .before .before .before in
+    let s = c .before .before .before .before .before .before .before .before .before .before .before .before .before in
     let kind = s .args .kind in
     let ids = s .args .ids .now in
-    row-written kind ids _ (tetRows) (tet-is kind ids (omega arith) (omega arith)) _ (s .args .out .now) refl _ _ refl (c .before .before .gather2 .ensures))
+    row-written kind ids _ (tetRows) (tet-is kind ids (omega arith) (omega arith)) (48 ∷ 49 ∷ 50 ∷ 51 ∷ []) (s .args .out .now) refl _ _ refl (c .before .before .gather-digits2 .ensures))
     (λ c κs. (omega arith, c .before .before .before .before .before .before .before .pre))
     (λ c. search needs)
     (λ c. c .before .before .write-flat .ensures))

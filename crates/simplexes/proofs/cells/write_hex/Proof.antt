@@ -6,7 +6,7 @@ use Prim.Native.Nat.{ℕ, _*_}
 use native.Mathlib.Omega.{arith}
 use lib.ListN.{length, take}
 use lib.Seq.{length-take-le}
-use Rattle.base.specs.Gather.{pick, corners}
+use Rattle.base.specs.Gather.{pick, corners, undigit}
 use Rattle.base.specs.Outcome.{overwrite}
 use Rattle.simplexes.specs.Split.{hexCase, hexCut}
 use Rattle.simplexes.proofs.Cuts.{hex-row, room, gathered}
@@ -14,26 +14,28 @@ use Rattle.simplexes.proofs.cells.write_hex.Statement.{statement}
 use Rattle.simplexes.proofs.cells.write_hex.Tie as tie
 
 -- as the function was entered
-abbrev start : tie.After-hex-count → tie.Start
+abbrev start : tie.After-case-count → tie.Start
 start c = c .before .before .before .before .before .before
 
 -- the row that the four calls made
-row : (c : tie.After-hex-count)
-    → (take (c .hex-count .result * 4) (c .before .hex-rows .result) ≡ corners 4 (hexCut (start c .args .ids .now) .rows))
-    × (c .hex-count .result ≡ length (hexCut (start c .args .ids .now) .rows))
+row : (c : tie.After-case-count)
+    → (undigit (take (c .case-count .result * 4) (c .before .case-row .result)) ≡ corners 4 (hexCut (start c .args .ids .now) .rows))
+    × (c .case-count .result ≡ length (hexCut (start c .args .ids .now) .rows))
 row c =
-    hex-row (start c .args .ids .now) (c .before .hex-rows .result) (c .before .before .hex-case .result) (c .hex-count .result)
-    (c .before .before .hex-case .ensures ∙ ap hexCase (c .before .before .before .renumber .ensures))
-    (c .hex-count .ensures .0)
-    (c .before .hex-rows .ensures)
+    let case = c .before .before .hex-case in
+    hex-row (start c .args .ids .now) (c .before .case-row .result) (case .result) (c .case-count .result)
+    (case .ensures .0 ∙ ap hexCase (c .before .before .before .renumber .ensures))
+    (case .ensures .1)
+    (c .case-count .ensures .0)
+    (c .before .case-row .ensures)
 
 returns : tie.Need-returns
 returns c =
     let k = c .before .before .before .before .before .before in
     let ids = start k .args .ids .now in
-    gathered 4 (hexCut ids) _ (start k .args .out .now) (row k .0) _ _ (row k .1)
-    (c .before .before .gather .ensures
-    ∙ ap (λ (cell : List ℕ). overwrite (pick cell (take (k .hex-count .result * 4) (k .before .hex-rows .result))) (start k .args .out .now))
+    gathered 4 (hexCut ids) (take (k .case-count .result * 4) (k .before .case-row .result)) (start k .args .out .now) (row k .0) _ _ (row k .1)
+    (c .before .before .gather-digits .ensures
+    ∙ ap (λ (cell : List ℕ). overwrite (pick cell (undigit (take (k .case-count .result * 4) (k .before .case-row .result)))) (start k .args .out .now))
     (k .before .before .before .renumber .ensures))
 
 pub write-hex-spec : {M : Type 1} → statement M
@@ -44,10 +46,10 @@ write-hex-spec =
     (λ c. search needs) (λ c. search needs) (λ c. search needs)
     (λ c.
     let k = c .before .before in
-    let long : length (k .before .hex-rows .result) ≡ 24 = search needs in
-    sym (length-take-le (k .hex-count .result * 4) (k .before .hex-rows .result) (omega (arith, k .hex-count .ensures .1))))
+    let long : length (k .before .case-row .result) ≡ 24 = search needs in
+    sym (length-take-le (k .case-count .result * 4) (k .before .case-row .result) (omega (arith, k .case-count .ensures .1))))
     (λ c κs.
     let k = c .before .before .before in
-    room 4 (hexCut (start k .args .ids .now)) _ (start k .args .out .now) (row k .0) (start k .pre))
+    room 4 (hexCut (start k .args .ids .now)) (take (k .case-count .result * 4) (k .before .case-row .result)) (start k .args .out .now) (row k .0) (start k .pre))
     (λ c. search needs)
     returns)
