@@ -10,3 +10,4 @@ pub mod OneCell
 pub mod NoSlit
 pub mod Shared
 pub mod Demand3
+mod Examples

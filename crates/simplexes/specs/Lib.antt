@@ -5,4 +5,3 @@ pub mod Triangle
 pub mod Demand3
 pub mod Table
 pub mod Strings
-pub mod Examples

@@ -8,19 +8,13 @@ use Rattle.base.specs.Gather.{digits}
 use Rattle.base.specs.Outcome.{Outcome, decide, given, overwrite, refused, settle, settleOne}
 use Rattle.base.specs.declared.refusals.Answer.{Answer}
 use Rattle.faces.specs.Edges.{along, count, edges, twice}
-use Rattle.faces.specs.Faces.{faces, full, runs}
+use Rattle.faces.specs.Faces.{faces, full, further, joined, runs}
 use Rattle.recognise.specs.Brick.{above, brick, hasEdge, home, opposite, place, side, sides, top, touches}
 use Rattle.recognise.specs.FromPoly.{fromPoly, plainKind, recognised}
 use Rattle.recognise.specs.Recognise.{fromFaces, mixed, nodesIn, otherLength, regular, tally}
 use Rattle.recognise.specs.Seek.{seek}
 use Rattle.recognise.specs.Tet.{fourth}
 use Rattle.recognise.specs.Wedge.{placeInSecond, runsAt, runsIn, wedge}
-
--- faces with a separator between them, none at the end
-abbrev pub phed : List (List ℕ) → List ℕ
-phed [] = []
-phed (f ∷ []) = f
-phed (f ∷ g ∷ fs) = f ++ separator ∷ phed (g ∷ fs)
 
 -- a triangle and a quad, their nodes as digits
 abbrev tri : ℕ → List ℕ
@@ -51,37 +45,37 @@ refuses kind ids why = record { kind = kind; ids = ids; outcome = record { answe
 abbrev pub examples : List Example
 examples =
     -- through poly and back: TET4 0..3 gives 0132, HEX8 0..7 gives 03214765, WEDGE6 itself
-    gives 19 (phed (tri 013 ∷ tri 123 ∷ tri 203 ∷ tri 021 ∷ [])) 11 4 013299999
-    ∷ gives 19 (phed (quad 0321 ∷ quad 4567 ∷ quad 0154 ∷ quad 1265 ∷ quad 2376 ∷ quad 3047 ∷ [])) 15 8 032147659
-    ∷ gives 19 (phed (tri 021 ∷ tri 345 ∷ quad 0143 ∷ quad 1254 ∷ quad 2035 ∷ [])) 13 6 012345999
+    gives 19 (joined separator (tri 013 ∷ tri 123 ∷ tri 203 ∷ tri 021 ∷ [])) 11 4 013299999
+    ∷ gives 19 (joined separator (quad 0321 ∷ quad 4567 ∷ quad 0154 ∷ quad 1265 ∷ quad 2376 ∷ quad 3047 ∷ [])) 15 8 032147659
+    ∷ gives 19 (joined separator (tri 021 ∷ tri 345 ∷ quad 0143 ∷ quad 1254 ∷ quad 2035 ∷ [])) 13 6 012345999
     -- two doubled triangles
-    ∷ gives 19 (phed (tri 123 ∷ tri 123 ∷ tri 456 ∷ tri 456 ∷ [])) 11 4 123499999
+    ∷ gives 19 (joined separator (tri 123 ∷ tri 123 ∷ tri 456 ∷ tri 456 ∷ [])) 11 4 123499999
     -- a brick whose bottom holds a node twice: the node above goes by id
-    ∷ gives 19 (phed (quad 0122 ∷ quad 0332 ∷ quad 2113 ∷ quad 4224 ∷ quad 1301 ∷ quad 3443 ∷ [])) 15 8 012233339
+    ∷ gives 19 (joined separator (quad 0122 ∷ quad 0332 ∷ quad 2113 ∷ quad 4224 ∷ quad 1301 ∷ quad 3443 ∷ [])) 15 8 012233339
     -- idle separators make no face
-    ∷ gives 19 (separator ∷ separator ∷ phed (tri 013 ∷ [] ∷ tri 123 ∷ tri 203 ∷ tri 021 ∷ [] ∷ [])) 11 4 013299999
+    ∷ gives 19 (separator ∷ separator ∷ joined separator (tri 013 ∷ [] ∷ tri 123 ∷ tri 203 ∷ tri 021 ∷ [] ∷ [])) 11 4 013299999
     -- 8 no face
     ∷ refuses 19 [] 8
     ∷ refuses 19 (separator ∷ separator ∷ []) 8
     -- 10 three lengths, 11 two lengths but no wedge's
-    ∷ refuses 19 (phed (tri 012 ∷ quad 0123 ∷ digits 2 56 ∷ [])) 10
-    ∷ refuses 19 (phed (tri 012 ∷ quad 0123 ∷ [])) 11
-    ∷ refuses 19 (phed (quad 0321 ∷ tri 014 ∷ tri 124 ∷ tri 234 ∷ tri 304 ∷ [])) 11
+    ∷ refuses 19 (joined separator (tri 012 ∷ quad 0123 ∷ digits 2 56 ∷ [])) 10
+    ∷ refuses 19 (joined separator (tri 012 ∷ quad 0123 ∷ [])) 11
+    ∷ refuses 19 (joined separator (quad 0321 ∷ tri 014 ∷ tri 124 ∷ tri 234 ∷ tri 304 ∷ [])) 11
     -- 12 no quad runs v1 to v0, 13 the node found is not in the second triangle
-    ∷ refuses 19 (phed (tri 012 ∷ tri 345 ∷ quad 0143 ∷ quad 1254 ∷ quad 2035 ∷ [])) 12
-    ∷ refuses 19 (phed (tri 021 ∷ tri 678 ∷ quad 0143 ∷ quad 1254 ∷ quad 2035 ∷ [])) 13
+    ∷ refuses 19 (joined separator (tri 012 ∷ tri 345 ∷ quad 0143 ∷ quad 1254 ∷ quad 2035 ∷ [])) 12
+    ∷ refuses 19 (joined separator (tri 021 ∷ tri 678 ∷ quad 0143 ∷ quad 1254 ∷ quad 2035 ∷ [])) 13
     -- 14 an edge not there exactly twice; a face that runs an edge twice counts it twice
-    ∷ refuses 19 (phed (tri 012 ∷ [])) 14
+    ∷ refuses 19 (joined separator (tri 012 ∷ [])) 14
     ∷ refuses 19 (digits 1 1) 14
-    ∷ refuses 19 (phed (tri 012 ∷ tri 012 ∷ tri 012 ∷ [])) 14
+    ∷ refuses 19 (joined separator (tri 012 ∷ tri 012 ∷ tri 012 ∷ [])) 14
     -- 15 closed, but no such surface
-    ∷ refuses 19 (phed (tri 012 ∷ tri 012 ∷ [])) 15
+    ∷ refuses 19 (joined separator (tri 012 ∷ tri 012 ∷ [])) 15
     ∷ refuses 19 (digits 2 12) 15
-    ∷ refuses 19 (phed (digits 1 1 ∷ digits 1 1 ∷ [])) 15
+    ∷ refuses 19 (joined separator (digits 1 1 ∷ digits 1 1 ∷ [])) 15
     -- 17 no opposite face, 18 no side face
     ∷ refuses 19
-    (phed (quad 1234 ∷ quad 1234 ∷ quad 1567 ∷ quad 1567 ∷ (1 ∷ 8 ∷ 9 ∷ 10 ∷ []) ∷ (1 ∷ 8 ∷ 9 ∷ 10 ∷ []) ∷ [])) 17
-    ∷ refuses 19 (phed (quad 1122 ∷ quad 1133 ∷ quad 2244 ∷ quad 3344 ∷ quad 5678 ∷ quad 5678 ∷ [])) 18
+    (joined separator (quad 1234 ∷ quad 1234 ∷ quad 1567 ∷ quad 1567 ∷ (1 ∷ 8 ∷ 9 ∷ 10 ∷ []) ∷ (1 ∷ 8 ∷ 9 ∷ 10 ∷ []) ∷ [])) 17
+    ∷ refuses 19 (joined separator (quad 1122 ∷ quad 1133 ∷ quad 2244 ∷ quad 3344 ∷ quad 5678 ∷ quad 5678 ∷ [])) 18
     -- PLINE and PGON, 9 where they are no fixed kind
     ∷ gives 17 (digits 2 12) 2 2 129999999
     ∷ refuses 17 (digits 3 123) 9
@@ -102,5 +96,5 @@ abbrev judged : Example → Example
 judged e = record { kind = e .kind; ids = e .ids; outcome = fromPoly (e .kind) (e .ids) lent }
 
 pub examples-hold : map judged examples ≡ examples
-unfolding fromPoly recognised plainKind settle settleOne decide overwrite elementRefusal inputRefusal elementFits nodesOf strays holdsSeparator faces full runs edges along count twice fromFaces regular mixed otherLength tally nodesIn fourth wedge runsAt runsIn placeInSecond brick opposite touches sides side hasEdge top home above place seek
+unfolding fromPoly recognised plainKind settle settleOne decide overwrite elementRefusal inputRefusal elementFits nodesOf strays holdsSeparator faces full runs joined further edges along count twice fromFaces regular mixed otherLength tally nodesIn fourth wedge runsAt runsIn placeInSecond brick opposite touches sides side hasEdge top home above place seek
 examples-hold = refl
