@@ -9,13 +9,14 @@ use lib.Dec.{eqb}
 use lib.ListN.{length, take, drop, length-append, length-drop}
 use lib.Seq.{drop-drop, length-take-le}
 use borrow.Author.Tests.{eqb-true, eqb-false, ne-eqb}
+use Rattle.base.specs.Solids.{isSolid}
 use Rattle.base.specs.Kinds.{nodesOf}
 use Rattle.base.specs.Outcome.{overwrite}
 use Rattle.base.specs.Checks.{blockRefusal}
 use Rattle.base.proofs.Accepted.{block-accepted}
 use Rattle.base.proofs.Lists.{overwrite-more}
 use Rattle.simplexes.specs.Split.{cut, split, splitCount, splitKind}
-use Rattle.simplexes.specs.Demand3.{Cell, isSolid, splits}
+use Rattle.simplexes.specs.Demand3.{Cell, splits}
 use Rattle.simplexes.proofs.Cuts.{split-length, three-rows, rows-most}
 use Rattle.blocks.specs.Blocks.{cells, counts, splitBlockRefusal}
 
