@@ -17,9 +17,9 @@ use Rattle.simplexes.specs.Smallest.{smallestPos, firstDiagonal}
 use Rattle.simplexes.specs.Rows.{branch, vertexRows, segRows, triRows, quadRows, tetRows, wedgeQuads, wedgeFirst, wedgeSecond, hexRows}
 use Rattle.simplexes.specs.Strings.{caseStrings, wedgeStrings, quadStrings}
 use Rattle.simplexes.specs.declared.Split.{Split}
-use Rattle.simplexes.proofs.Strings.{quad-string, wedge-string, case-string}
+use Rattle.simplexes.proofs.Strings.{quad-string, wedge-string, case-string, pick-take}
 use Rattle.simplexes.proofs.Laws.{below-at}
-use Rattle.simplexes.specs.Split.{Cut, Written, by, quad, cut, split, splitKind, splitCount, splitCell, simplexes, wedgeCut, hexCase, renumbered, hexCut}
+use Rattle.simplexes.specs.Split.{AtMost, Cut, Written, by, quad, cut, split, splitKind, splitCount, splitCell, simplexes, wedgeCut, hexCase, renumbered, hexCut}
 
 pub length-digits : (n row : ℕ) → length (digits n row) ≡ n
 length-digits zero row = refl
@@ -64,7 +64,7 @@ either-branch false place = refl
 -- the wedge's row, from the place of the smallest and the outcome of the search that is left
 pub wedge-row : (ids : List ℕ) (place : ℕ) (b : Bool) → place ≡ min (smallestPos ids) 5
     → firstDiagonal (pick ids (undigit (getD quadStrings place []))) ≡ b
-    → undigit (getD wedgeStrings (place + cond b 0 1 * 6) []) ≡ corners 4 (wedgeCut ids .rows)
+    → undigit (getD wedgeStrings (place * 2 + cond b 0 1) []) ≡ corners 4 (wedgeCut ids .rows)
 wedge-row ids place b e d =
     let few : place < 6 = omega arith in
     wedge-string place few b
@@ -76,11 +76,17 @@ wedge-row ids place b e d =
 -- the brick's row, from its case and the number of tetrahedra of that case
 pub hex-row : (ids row : List ℕ) (case count : ℕ) → case ≡ hexCase (renumbered ids) → case < 8
     → count ≡ length (branch hexRows [] case) → row ≡ getD caseStrings case []
-    → (undigit (take (count * 4) row) ≡ corners 4 (hexCut ids .rows)) × (count ≡ length (hexCut ids .rows))
+    → (take (count * 4) (undigit row) ≡ corners 4 (hexCut ids .rows)) × (count ≡ length (hexCut ids .rows))
 hex-row ids row case count e few k r = (
-  ap₂ (λ (k : ℕ) (r : List ℕ). undigit (take (k * 4) r)) k r ∙ case-string case few ∙ ap (λ (k : ℕ). corners 4 (branch hexRows [] k)) e,
+  ap₂ (λ (k : ℕ) (r : List ℕ). take (k * 4) (undigit r)) k r ∙ case-string case few ∙ ap (λ (k : ℕ). corners 4 (branch hexRows [] k)) e,
   k ∙ ap (λ (k : ℕ). length (branch hexRows [] k)) e,
 )
+
+-- the ids that a string's first corners pick are a cut's simplexes where the corners are its rows'
+pub picked : (c : Cut) (string : List ℕ) (count : ℕ) → take (count * 4) (undigit string) ≡ corners 4 (c .rows)
+    → take (count * 4) (pick (c .ids) (undigit string)) ≡ simplexes 4 c
+unfolding simplexes
+picked c string count e = pick-take (count * 4) (c .ids) (undigit string) ∙ ap (pick (c .ids)) e
 
 -- a wedge has three rows, a quad two, a segment one, and a brick at most six
 pub three-rows : (ids : List ℕ) → length (wedgeCut ids .rows) ≡ 3
@@ -127,6 +133,19 @@ rows-most kind ids =
     (either few (leb 2 kind) (omega (arith, one-row (eqb (smallestPos ids) 0)))
     (either few (leb 1 kind) (omega arith) (omega arith))))))))
 
+rows-few : (kind : ℕ) (ids : List ℕ) → kind < 15 → length (cut kind ids .rows) ≤ 3
+unfolding cut
+rows-few kind ids h =
+    let few : Cut → Type 0 = λ c. length (c .rows) ≤ 3 in
+    rw (lt-leb 15 kind h)
+    (either few (leb 17 kind) (omega arith)
+    (either few (leb 13 kind) (omega (arith, three-rows ids))
+    (either few (leb 11 kind) (omega arith)
+    (either few (leb 8 kind) (omega (arith, two-rows (firstDiagonal ids)))
+    (either few (leb 5 kind) (omega arith)
+    (either few (leb 2 kind) (omega (arith, one-row (eqb (smallestPos ids) 0)))
+    (either few (leb 1 kind) (omega arith) (omega arith))))))))
+
 nodes-most : (kind : ℕ) → nodesOf (splitKind kind) ≤ 4
 unfolding splitKind nodesOf
 nodes-most kind =
@@ -147,6 +166,11 @@ pub split-most : (kind : ℕ) (ids : List ℕ) → length (split kind ids) ≤ 2
 unfolding splitCount
 split-most kind ids =
     rw (split-length kind ids) (mul-le-mul (rows-most kind ids) (nodes-most kind))
+
+-- or 12, of any kind but the bricks'
+pub split-few : (kind : ℕ) → kind < 15 → AtMost kind 12
+unfolding splitCount
+split-few kind h ids = rw (split-length kind ids) (mul-le-mul (rows-few kind ids h) (nodes-most kind))
 
 -- a split by value: its count and kind say how many of its ids are the simplexes'
 module _ (kind : ℕ) (ids : List ℕ) (s : Split) (nodes : ℕ) (e : s ≡ splitCell kind ids) (m : nodes ≡ nodesOf (s .kind)) where

@@ -21,12 +21,12 @@ quad-string k h =
     eqs-eq _ _ (below-at 6 (λ k. eqs (undigit (getD quadStrings k [])) (digits 4 (getD wedgeQuads k 0))) tt k h)
 
 pub wedge-string : (k : ℕ) → k < 6 → (b : Bool)
-    → undigit (getD wedgeStrings (k + cond b 0 1 * 6) []) ≡ corners 4 (getD (cond b wedgeFirst wedgeSecond) k [])
+    → undigit (getD wedgeStrings (k * 2 + cond b 0 1) []) ≡ corners 4 (getD (cond b wedgeFirst wedgeSecond) k [])
 unfolding wedgeStrings
 wedge-string k h true =
-    eqs-eq _ _ (below-at 6 (λ k. eqs (undigit (getD wedgeStrings (k + 0 * 6) [])) (corners 4 (getD wedgeFirst k []))) tt k h)
+    eqs-eq _ _ (below-at 6 (λ k. eqs (undigit (getD wedgeStrings (k * 2 + 0) [])) (corners 4 (getD wedgeFirst k []))) tt k h)
 wedge-string k h false =
-    eqs-eq _ _ (below-at 6 (λ k. eqs (undigit (getD wedgeStrings (k + 1 * 6) [])) (corners 4 (getD wedgeSecond k []))) tt k h)
+    eqs-eq _ _ (below-at 6 (λ k. eqs (undigit (getD wedgeStrings (k * 2 + 1) [])) (corners 4 (getD wedgeSecond k []))) tt k h)
 
 pub turn-string : (k : ℕ) → k < 8 → undigit (getD turnStrings k []) ≡ digits 8 (getD renumberings k 0)
 unfolding turnStrings
@@ -35,11 +35,11 @@ turn-string k h =
 
 -- the tetrahedra of a row of 24 end where the filler begins
 pub case-string : (k : ℕ) → k < 8
-    → undigit (take (length (branch hexRows [] k) * 4) (getD caseStrings k [])) ≡ corners 4 (branch hexRows [] k)
+    → take (length (branch hexRows [] k) * 4) (undigit (getD caseStrings k [])) ≡ corners 4 (branch hexRows [] k)
 unfolding caseStrings overwrite
 case-string k h =
     eqs-eq _ _
-    (below-at 8 (λ k. eqs (undigit (take (length (branch hexRows [] k) * 4) (getD caseStrings k []))) (corners 4 (branch hexRows [] k))) tt k h)
+    (below-at 8 (λ k. eqs (take (length (branch hexRows [] k) * 4) (undigit (getD caseStrings k []))) (corners 4 (branch hexRows [] k))) tt k h)
 
 pub hex-string : (k : ℕ) → k < 64
     → take (length (used (getD hexTable k [])) * 4) (undigit (getD hexStrings k [])) ≡ corners 4 (used (getD hexTable k []))
@@ -74,6 +74,10 @@ wedge-within k h = in-range 6 (getD wedgeStrings k []) (below-at 12 (λ k. inRan
 pub turn-within : (k : ℕ) → k < 8 → Within 8 (getD turnStrings k [])
 unfolding turnStrings
 turn-within k h = in-range 8 (getD turnStrings k []) (below-at 8 (λ k. inRange 8 (getD turnStrings k [])) tt k h)
+
+pub case-within : (k : ℕ) → k < 8 → Within 8 (getD caseStrings k [])
+unfolding caseStrings overwrite
+case-within k h = in-range 8 (getD caseStrings k []) (below-at 8 (λ k. inRange 8 (getD caseStrings k [])) tt k h)
 
 pub hex-within : (k : ℕ) → k < 64 → Within 8 (getD hexStrings k [])
 unfolding hexStrings

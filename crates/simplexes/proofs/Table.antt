@@ -132,14 +132,14 @@ wedge-place-few ids = omega (arith, second-few (firstDiagonal (quad ids (branch 
 pub wedge-place-is : (ids : List ℕ) (strings : List (List ℕ)) (place : ℕ) (first : Bool) (second : ℕ)
     → strings ≡ quadStrings → place ≡ smallestPos ids → place < 6
     → first ≡ firstDiagonal (pick ids (undigit (getD strings place []))) → second ≡ cond first 0 1
-    → place + second * 6 ≡ wedgePlace ids
+    → place * 2 + second ≡ wedgePlace ids
 unfolding wedgePlace
 wedge-place-is ids strings place first second s e h d k =
     let m : place ≡ min (smallestPos ids) 5 = omega arith in
     let q : first ≡ firstDiagonal (quad ids (branch wedgeQuads 0 (smallestPos ids))) =
     d ∙ ap (λ (t : List (List ℕ)). firstDiagonal (pick ids (undigit (getD t place [])))) s
     ∙ ap (λ (row : List ℕ). firstDiagonal (pick ids row)) (quad-string place h ∙ ap (λ (k : ℕ). digits 4 (getD wedgeQuads k 0)) m) in
-    ap₂ (λ (k : ℕ) (b : ℕ). k + b * 6) m (k ∙ ap (λ (b : Bool). cond b 0 1) q)
+    ap₂ (λ (k : ℕ) (b : ℕ). k * 2 + b) m (k ∙ ap (λ (b : Bool). cond b 0 1) q)
 
 pub wedge-picked : (ids string : List ℕ) (row : ℕ) → row ≡ wedgePlace ids → string ≡ getD wedgeStrings row []
     → take 12 (pick ids (undigit string)) ≡ simplexes 4 (wedgeCut ids)

@@ -1,7 +1,7 @@
 -- The tables as the code writes them: a row is one string of ASCII digits.
 use Prim.Native.Nat.{ℕ, _+_, _*_, _≤_, _<_, min}
 use mathlib.Core.Bool.{cond}
-use mathlib.Core.List.{List, [], _++_, map}
+use mathlib.Core.List.{List, [], _∷_, map}
 use lib.ListN.{length, getD, replicate}
 use Rattle.base.specs.Gather.{digits, corners}
 use Rattle.base.specs.Outcome.{overwrite}
@@ -27,17 +27,19 @@ turnStrings = map (λ row. ascii (digits 8 row)) renumberings
 unfoldable pub caseStrings : List (List ℕ)
 caseStrings = map (λ rows. overwrite (ascii (corners 4 rows)) (replicate 24 48)) hexRows
 
--- the wedge's rows, those of the first diagonal and then those of the second
-abbrev pub wedgeTable : List (List ℕ)
-wedgeTable = wedgeFirst ++ wedgeSecond
+-- two tables' rows in turn
+abbrev pub inTurn : List (List ℕ) → List (List ℕ) → List (List ℕ)
+inTurn [] more = more
+inTurn (row ∷ rows) [] = row ∷ rows
+inTurn (row ∷ rows) (other ∷ more) = row ∷ other ∷ inTurn rows more
 
 unfoldable pub wedgeStrings : List (List ℕ)
-wedgeStrings = map (λ rows. ascii (corners 4 rows)) wedgeTable
+wedgeStrings = map (λ rows. ascii (corners 4 rows)) (inTurn wedgeFirst wedgeSecond)
 
 unfoldable pub quadStrings : List (List ℕ)
 quadStrings = map (λ row. ascii (digits 4 row)) wedgeQuads
 
--- the place of a wedge's row
+-- the place of a wedge's row, two for each place of the smallest
 unfoldable pub wedgePlace : List ℕ → ℕ
 wedgePlace ids =
-    min (smallestPos ids) 5 + cond (firstDiagonal (quad ids (branch wedgeQuads 0 (smallestPos ids)))) 0 1 * 6
+    min (smallestPos ids) 5 * 2 + cond (firstDiagonal (quad ids (branch wedgeQuads 0 (smallestPos ids)))) 0 1

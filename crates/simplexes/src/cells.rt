@@ -16,6 +16,8 @@ ghost use Rattle.simplexes.specs.Split.{Written, cut, hexCase, hexCut, r
 use super::smallest::first_diagonal;
 use super::smallest::on_first;
 use super::smallest::smallest;
+use super::smallest::smallest_of_eight;
+use super::solids;
 use super::tables;
 use base::kinds::Kind;
 use base::lent::gather_digits;
@@ -32,9 +34,7 @@ pub fn write_cell(kind: u64, ids: &[u64], out: &mut [u64]) -> u64
         return write_hex(ids, out);
     }
     if Kind::WEDGE6 <= kind {
-        let corners = wedge_corners(ids);
-        gather_digits(ids, &corners, out);
-        return 3;
+        return write_wedge(ids, out);
     }
     if Kind::TET4 <= kind {
         let corners = *b"0123";
@@ -54,8 +54,7 @@ fn write_hex(ids: &[u64], out: &mut [u64]) -> u64
     let case = hex_case(cell);
     let rows = case_row(case);
     let count = tables::case_count(case);
-    let n = count as usize * Kind::TET4_NODES;
-    gather_digits(&cell, &rows[..n], out);
+    solids::put(&cell, &rows, count as usize, out);
     count
 }
 
@@ -68,6 +67,18 @@ pub fn count_hex(ids: &[u64]) -> u64
 
 // The ids of a brick, renumbered by the place of its smallest.
 fn renumber(ids: &[u64]) -> [u64; 8]
+    ensures { λ r. ⌜ r ≡ renumbered (now (ids .entry)) ⌝ }
+{
+    if ids.len() == Kind::HEX8_NODES {
+        let rows = tables::renumberings();
+        let place = smallest_of_eight(ids);
+        return solids::renumber(ids, &rows[place]);
+    }
+    renumber_any(ids)
+}
+
+// The same where there are mid-side nodes, which are searched too, or corners are lacking.
+fn renumber_any(ids: &[u64]) -> [u64; 8]
     ensures { λ r. ⌜ r ≡ renumbered (now (ids .entry)) ⌝ }
 {
     let corners = renumbering(smallest(ids));
@@ -113,17 +124,33 @@ pub fn second(first: bool) -> usize
     if first { 0 } else { 1 }
 }
 
-// The wedge's corners: by its smallest, then by the diagonal of the quad that is left.
+// The wedge by its row.
+fn write_wedge(ids: &[u64], out: &mut [u64]) -> u64
+    requires { ⌜ length (simplexes 4 (wedgeCut (now ids))) ≤ length (now out) ⌝ }
+    ensures { λ r. ⌜ Written 4 (wedgeCut (now (ids .entry))) (now (out .entry)) r (now (out .exit)) ⌝ }
+{
+    if ids.len() == Kind::WEDGE6_NODES {
+        let table = tables::wedge_table();
+        let quads = tables::wedge_quads();
+        let row = solids::wedge_row(&quads, ids);
+        solids::write_wedge_row(&table, row, ids, out);
+        return 3;
+    }
+    let corners = wedge_corners(ids);
+    gather_digits(ids, &corners, out);
+    3
+}
+
+// The corners of a wedge with mid-side nodes, which are searched too, or of one that lacks corners: by the
+// smallest, then by the diagonal of the quad that is left.
 fn wedge_corners(ids: &[u64]) -> [u8; 12]
     ensures { λ r. ⌜ undigit r ≡ corners 4 (wedgeCut (now (ids .entry)) .rows) ⌝ }
 {
     let place = wedge_branch(smallest(ids));
     let quads = tables::wedge_quads();
-    let rows = tables::wedge_table();
-    if first_diagonal(ids, quads[place]) {
-        return rows[place];
-    }
-    rows[place + Kind::WEDGE6_NODES]
+    let table = tables::wedge_table();
+    let first = first_diagonal(ids, quads[place]);
+    table[place * 2 + second(first)]
 }
 
 // The place of a wedge's smallest; one past its corners counts as the last.

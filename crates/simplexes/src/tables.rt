@@ -99,20 +99,20 @@ const RENUMBERINGS: [[u8; 8]; 8] = [
     *b"76543210",
 ];
 
-// The wedge: a row for each place of the smallest, where the quad that is left is cut along its first
-// diagonal, then the same where it is cut along its second.
+// The wedge: two rows for each place of the smallest, where the quad that is left is cut along its first
+// diagonal and where it is cut along its second.
 const WEDGE_TABLE: [[u8; 12]; 12] = [
     *b"045301540512",
-    *b"153412351320",
-    *b"234520432401",
-    *b"321031543512",
-    *b"402142354320",
-    *b"510250435401",
     *b"045302410425",
+    *b"153412351320",
     *b"153410521503",
+    *b"234520432401",
     *b"234524312130",
+    *b"321031543512",
     *b"321032413425",
+    *b"402142354320",
     *b"402140524503",
+    *b"510250435401",
     *b"510251305314",
 ];
 

@@ -25,11 +25,11 @@ wedge-row-spec =
     (λ c κs. search needs)
     (λ c. search needs)
     (λ c. search needs)
+    (λ c. search needs)
     (λ c κs.
     let s = c .before in
     let start = s .before .before in
     rw (start .pre .0, start .pre .1) (quad-within (s .smallest-of-six .result) (s .smallest-of-six .ensures .1)))
     (λ c κs. search needs)
-    (λ c. search needs)
     (λ c. search needs)
     returns)

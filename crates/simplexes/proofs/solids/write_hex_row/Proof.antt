@@ -46,7 +46,6 @@ write-hex-row-spec =
     tie.close
     (tie.spec
     (λ c κs. few (c .before .before))
-    (λ c. search needs)
     (λ c. omega (arith, few (start c)))
     (λ c. few (start c))
     put-requires
