@@ -2,6 +2,6 @@
 pub mod Tables
 pub mod PolyFaces
 pub mod PolyEdges
-mod Digits
+mod Fitting
 mod Sides
 mod Apart

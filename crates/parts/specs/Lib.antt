@@ -1,4 +1,3 @@
 pub mod Tables
-pub mod Rows
 pub mod Subentities
 pub mod Poly

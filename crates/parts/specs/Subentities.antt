@@ -9,8 +9,7 @@ use Rattle.base.specs.Gather.{pick}
 use Rattle.base.specs.Outcome.{Outcome, orElse, settleOne, settleTwo}
 use Rattle.faces.specs.Faces.{faces}
 use Rattle.faces.specs.Edges.{Edge, cycle}
-use Rattle.parts.specs.Tables.{tableOf, partsOf, cornersOf}
-use Rattle.parts.specs.Rows.{kindAt, countAt}
+use Rattle.parts.specs.Tables.{tableOf, partsOf, kindAt, countAt, cornersOf}
 use Rattle.parts.specs.declared.subentities.Codimension.{Codimension}
 use Rattle.parts.specs.declared.subentities.Codimension.the-variants.{Absent, Of}
 use Rattle.parts.specs.declared.subentities.Parts.{Parts}

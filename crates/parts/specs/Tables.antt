@@ -1,7 +1,7 @@
 -- The sub-entities of each kind by their corners (document 01, 'Sub-entities').
 use Prim.Native.Nat.{ℕ, _-_}
-use mathlib.Core.List.{List, [], _∷_, _++_}
-use lib.ListN.{getD}
+use mathlib.Core.List.{List, [], _∷_, _++_, map}
+use lib.ListN.{length, getD}
 use Rattle.base.specs.Kinds.{nodesOf}
 use Rattle.base.specs.Gather.{corners}
 use Rattle.base.specs.Solids.{tet4Tris, wedge6Tris, wedge6Quads, hex8Quads}
@@ -81,6 +81,13 @@ tableOf kind = getD tables kind []
 -- the sub-entities of a kind at a codimension from 1 on
 abbrev pub partsOf : ℕ → ℕ → List Part
 partsOf kind codim = getD ([] ∷ tableOf kind) codim []
+
+-- the kind and the count of pair i; 0 where there is none
+abbrev pub kindAt : ℕ → List Part → ℕ
+kindAt i parts = getD (map (λ (p : Part). p .kind) parts) i 0
+
+abbrev pub countAt : ℕ → List Part → ℕ
+countAt i parts = getD (map (λ (p : Part). length (p .rows)) parts) i 0
 
 -- their corners, one sub-entity after another
 abbrev pub cornersOf : List Part → List ℕ

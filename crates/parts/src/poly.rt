@@ -1,13 +1,14 @@
 // The poly form of an element: a polyline, a polygon, or a polyhedron given by its faces.
 ghost use mathlib.Core.Path.{_≡_};
+ghost use mathlib.Core.Bool.{true};
 ghost use lib.ListN.{length};
-ghost use Rattle.base.specs.Gather.{pick, undigit};
+ghost use Rattle.base.specs.Gather.{fits, pick, undigit};
 ghost use Rattle.base.specs.Outcome.{Permits, settle};
 ghost use Rattle.parts.specs.Poly.{polyKind, polyRefusal, toPoly};
 use base::checks::element_refusal;
 use base::kinds::Kind;
 use base::lent::copy;
-use base::lent::gather_digits;
+use base::lent::gather_within;
 use base::refusals::Answer;
 use base::refusals::Refusal;
 
@@ -76,12 +77,13 @@ fn poly_kind(kind: u64) -> u64
 
 // The faces of a cell by a row of digits, a colon for the separator between two faces.
 fn write_phed(ids: &[u64], row: &[u8], out: &mut [u64]) -> Answer
+    requires { ⌜ fits (length (now ids)) (now row) ≡ true ⌝ }
     ensures { λ r. ⌜ Permits (settle 0 19 (length (pick (now (ids .entry)) (undigit (now (row .entry))))) (pick (now (ids .entry)) (undigit (now (row .entry)))) (now (out .entry))) r (now (out .exit)) ⌝ }
 {
     if out.len() < row.len() {
         return Answer::refused(Refusal::SHORT_OUTPUT);
     }
-    gather_digits(ids, row, out);
+    gather_within(ids, row, out);
     Answer::given(Kind::PHED, row.len() as u64)
 }
 

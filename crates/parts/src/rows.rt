@@ -1,131 +1,142 @@
-// The tables of sub-entities, as rows of corner digits.
+// The sub-entities of a kind with a table: each arm writes the ids at a row of corner digits.
 ghost use mathlib.Core.Path.{_≡_};
-ghost use Prim.Native.Nat.{_+_};
-ghost use Rattle.parts.specs.Rows.{rowOf};
+ghost use mathlib.Core.Bool.{true};
+ghost use mathlib.Core.List.{[]};
+ghost use lib.ListN.{length};
+ghost use Rattle.base.specs.Checks.{elementRefusal};
+ghost use Rattle.base.specs.Gather.{fits, pick, undigit};
+ghost use Rattle.base.specs.Outcome.{Permits, settleOne};
+ghost use Rattle.parts.specs.Subentities.{alike, refusedParts, tableParts, toFirst};
+use super::subentities::Parts;
+use super::subentities::given;
+use super::subentities::refused;
 use base::kinds::Kind;
+use base::lent::gather_within;
+use base::refusals::Refusal;
 
-// A table's sub-entities: kind and count, a second pair where there is one, and in the first `size`
-// digits their corners, one sub-entity after another.
-pub struct Row {
-    pub kind: u64,
-    pub count: u64,
-    pub kind2: u64,
-    pub count2: u64,
-    pub size: usize,
-    pub digits: [u8; 24],
-}
-
-// The row of a kind at a codimension; one of no digits where there is none.
-pub fn row_of(kind: u64, codim: u64) -> Row
-    ensures { λ r. ⌜ r ≡ rowOf kind codim ⌝ }
+// The sub-entities of an element that is not refused.
+pub fn table_parts(kind: u64, codim: u64, ids: &[u64], out: &mut [u64]) -> Parts
+    requires { ⌜ elementRefusal kind (now ids) ≡ 0 ⌝ }
+    ensures { λ r. ⌜ Permits (toFirst (tableParts kind codim (now (ids .entry))) (now (out .entry))) r (now (out .exit)) ⌝ }
 {
     match codim {
-        0 => no_row(),
-        1 => first_row(kind),
-        2 => second_row(kind),
-        3 => third_row(kind),
-        _ => no_row(),
+        0 => given(0, 0),
+        1 => first_parts(kind, ids, out),
+        2 => second_parts(kind, ids, out),
+        3 => third_parts(kind, ids, out),
+        _ => given(0, 0),
     }
 }
 
 // Codimension 1: the ends of a segment, the sides of a face, the faces of a cell.
-fn first_row(kind: u64) -> Row
-    ensures { λ r. ⌜ r ≡ rowOf kind 1 ⌝ }
+fn first_parts(kind: u64, ids: &[u64], out: &mut [u64]) -> Parts
+    requires { ⌜ elementRefusal kind (now ids) ≡ 0 ⌝ }
+    ensures { λ r. ⌜ Permits (toFirst (tableParts kind 1 (now (ids .entry))) (now (out .entry))) r (now (out .exit)) ⌝ }
 {
     match kind {
-        0 => no_row(),
-        Kind::VERTEX => no_row(),
-        Kind::SEG2 => of_kind(Kind::VERTEX, 2, 2, *b"01                      "),
-        Kind::SEG3 => of_kind(Kind::VERTEX, 2, 2, *b"01                      "),
-        Kind::SEG4 => of_kind(Kind::VERTEX, 2, 2, *b"01                      "),
-        Kind::TRI3 => of_kind(Kind::SEG2, 3, 6, *b"011220                  "),
-        Kind::TRI6 => of_kind(Kind::SEG3, 3, 9, *b"013124205               "),
-        Kind::TRI7 => of_kind(Kind::SEG3, 3, 9, *b"013124205               "),
-        Kind::QUAD4 => of_kind(Kind::SEG2, 4, 8, *b"01122330                "),
-        Kind::QUAD8 => no_row(),
-        Kind::QUAD9 => no_row(),
-        Kind::TET4 => of_kind(Kind::TRI3, 4, 12, *b"013123203021            "),
-        Kind::TET10 => no_row(),
-        Kind::WEDGE6 => Row {
-            kind: Kind::TRI3,
-            count: 2,
-            kind2: Kind::QUAD4,
-            count2: 3,
-            size: 18,
-            digits: *b"021345014312542035      ",
-        },
-        Kind::WEDGE15 => no_row(),
-        Kind::HEX8 => of_kind(Kind::QUAD4, 6, 24, *b"032145670154237612653047"),
-        _ => no_row(),
+        0 => given(0, 0),
+        Kind::VERTEX => given(0, 0),
+        Kind::SEG2 => of_kind(Kind::VERTEX, 2, ids, b"01", out),
+        Kind::SEG3 => of_kind(Kind::VERTEX, 2, ids, b"01", out),
+        Kind::SEG4 => of_kind(Kind::VERTEX, 2, ids, b"01", out),
+        Kind::TRI3 => of_kind(Kind::SEG2, 3, ids, b"011220", out),
+        Kind::TRI6 => of_kind(Kind::SEG3, 3, ids, b"013124205", out),
+        Kind::TRI7 => of_kind(Kind::SEG3, 3, ids, b"013124205", out),
+        Kind::QUAD4 => of_kind(Kind::SEG2, 4, ids, b"01122330", out),
+        Kind::QUAD8 => given(0, 0),
+        Kind::QUAD9 => given(0, 0),
+        Kind::TET4 => of_kind(Kind::TRI3, 4, ids, b"013123203021", out),
+        Kind::TET10 => given(0, 0),
+        Kind::WEDGE6 => wedge_faces(ids, out),
+        Kind::WEDGE15 => given(0, 0),
+        Kind::HEX8 => of_kind(Kind::QUAD4, 6, ids, b"032145670154237612653047", out),
+        _ => given(0, 0),
     }
 }
 
 // Codimension 2: the vertices of a face, the edges of a cell.
-fn second_row(kind: u64) -> Row
-    ensures { λ r. ⌜ r ≡ rowOf kind 2 ⌝ }
+fn second_parts(kind: u64, ids: &[u64], out: &mut [u64]) -> Parts
+    requires { ⌜ elementRefusal kind (now ids) ≡ 0 ⌝ }
+    ensures { λ r. ⌜ Permits (toFirst (tableParts kind 2 (now (ids .entry))) (now (out .entry))) r (now (out .exit)) ⌝ }
 {
     match kind {
-        0 => no_row(),
-        Kind::VERTEX => no_row(),
-        Kind::SEG2 => no_row(),
-        Kind::SEG3 => no_row(),
-        Kind::SEG4 => no_row(),
-        Kind::TRI3 => of_kind(Kind::VERTEX, 3, 3, *b"012                     "),
-        Kind::TRI6 => of_kind(Kind::VERTEX, 3, 3, *b"012                     "),
-        Kind::TRI7 => of_kind(Kind::VERTEX, 3, 3, *b"012                     "),
-        Kind::QUAD4 => of_kind(Kind::VERTEX, 4, 4, *b"0123                    "),
-        Kind::QUAD8 => no_row(),
-        Kind::QUAD9 => no_row(),
-        Kind::TET4 => of_kind(Kind::SEG2, 6, 12, *b"010203121323            "),
-        Kind::TET10 => no_row(),
-        Kind::WEDGE6 => of_kind(Kind::SEG2, 9, 18, *b"010203121425343545      "),
-        Kind::WEDGE15 => no_row(),
-        Kind::HEX8 => of_kind(Kind::SEG2, 12, 24, *b"010304121523263745475667"),
-        _ => no_row(),
+        0 => given(0, 0),
+        Kind::VERTEX => given(0, 0),
+        Kind::SEG2 => given(0, 0),
+        Kind::SEG3 => given(0, 0),
+        Kind::SEG4 => given(0, 0),
+        Kind::TRI3 => of_kind(Kind::VERTEX, 3, ids, b"012", out),
+        Kind::TRI6 => of_kind(Kind::VERTEX, 3, ids, b"012", out),
+        Kind::TRI7 => of_kind(Kind::VERTEX, 3, ids, b"012", out),
+        Kind::QUAD4 => of_kind(Kind::VERTEX, 4, ids, b"0123", out),
+        Kind::QUAD8 => given(0, 0),
+        Kind::QUAD9 => given(0, 0),
+        Kind::TET4 => of_kind(Kind::SEG2, 6, ids, b"010203121323", out),
+        Kind::TET10 => given(0, 0),
+        Kind::WEDGE6 => of_kind(Kind::SEG2, 9, ids, b"010203121425343545", out),
+        Kind::WEDGE15 => given(0, 0),
+        Kind::HEX8 => of_kind(Kind::SEG2, 12, ids, b"010304121523263745475667", out),
+        _ => given(0, 0),
     }
 }
 
 // Codimension 3: the vertices of a cell.
-fn third_row(kind: u64) -> Row
-    ensures { λ r. ⌜ r ≡ rowOf kind 3 ⌝ }
+fn third_parts(kind: u64, ids: &[u64], out: &mut [u64]) -> Parts
+    requires { ⌜ elementRefusal kind (now ids) ≡ 0 ⌝ }
+    ensures { λ r. ⌜ Permits (toFirst (tableParts kind 3 (now (ids .entry))) (now (out .entry))) r (now (out .exit)) ⌝ }
 {
     match kind {
-        0 => no_row(),
-        Kind::VERTEX => no_row(),
-        Kind::SEG2 => no_row(),
-        Kind::SEG3 => no_row(),
-        Kind::SEG4 => no_row(),
-        Kind::TRI3 => no_row(),
-        Kind::TRI6 => no_row(),
-        Kind::TRI7 => no_row(),
-        Kind::QUAD4 => no_row(),
-        Kind::QUAD8 => no_row(),
-        Kind::QUAD9 => no_row(),
-        Kind::TET4 => of_kind(Kind::VERTEX, 4, 4, *b"0123                    "),
-        Kind::TET10 => no_row(),
-        Kind::WEDGE6 => of_kind(Kind::VERTEX, 6, 6, *b"012345                  "),
-        Kind::WEDGE15 => no_row(),
-        Kind::HEX8 => of_kind(Kind::VERTEX, 8, 8, *b"01234567                "),
-        _ => no_row(),
+        0 => given(0, 0),
+        Kind::VERTEX => given(0, 0),
+        Kind::SEG2 => given(0, 0),
+        Kind::SEG3 => given(0, 0),
+        Kind::SEG4 => given(0, 0),
+        Kind::TRI3 => given(0, 0),
+        Kind::TRI6 => given(0, 0),
+        Kind::TRI7 => given(0, 0),
+        Kind::QUAD4 => given(0, 0),
+        Kind::QUAD8 => given(0, 0),
+        Kind::QUAD9 => given(0, 0),
+        Kind::TET4 => of_kind(Kind::VERTEX, 4, ids, b"0123", out),
+        Kind::TET10 => given(0, 0),
+        Kind::WEDGE6 => of_kind(Kind::VERTEX, 6, ids, b"012345", out),
+        Kind::WEDGE15 => given(0, 0),
+        Kind::HEX8 => of_kind(Kind::VERTEX, 8, ids, b"01234567", out),
+        _ => given(0, 0),
     }
+}
+
+// The faces of a WEDGE6, triangles and then quads.
+fn wedge_faces(ids: &[u64], out: &mut [u64]) -> Parts
+    requires { ⌜ elementRefusal 13 (now ids) ≡ 0 ⌝ }
+    ensures { λ r. ⌜ Permits (toFirst (tableParts 13 1 (now (ids .entry))) (now (out .entry))) r (now (out .exit)) ⌝ }
+{
+    let answer = Parts {
+        refusal: 0,
+        kind: Kind::TRI3,
+        count: 2,
+        kind2: Kind::QUAD4,
+        count2: 3,
+    };
+    write_row(answer, ids, b"021345014312542035", out)
 }
 
 // Sub-entities of one kind.
-fn of_kind(kind: u64, count: u64, size: usize, digits: [u8; 24]) -> Row
-    ensures { λ r. ⌜ r ≡ record { kind = kind; count = count; kind2 = 0; count2 = 0; size = size; digits = digits } ⌝ }
+fn of_kind(kind: u64, count: usize, ids: &[u64], row: &[u8], out: &mut [u64]) -> Parts
+    requires { ⌜ fits (length (now ids)) (now row) ≡ true ⌝ }
+    ensures { λ r. ⌜ Permits (toFirst (alike kind count (pick (now (ids .entry)) (undigit (now (row .entry)))) []) (now (out .entry))) r (now (out .exit)) ⌝ }
 {
-    Row {
-        kind,
-        count,
-        kind2: 0,
-        count2: 0,
-        size,
-        digits,
-    }
+    write_row(given(kind, count), ids, row, out)
 }
 
-fn no_row() -> Row
-    ensures { λ r. ⌜ r ≡ rowOf 0 0 ⌝ }
+// The ids at a row over the front of out, under an answer.
+fn write_row(answer: Parts, ids: &[u64], row: &[u8], out: &mut [u64]) -> Parts
+    requires { ⌜ fits (length (now ids)) (now row) ≡ true ⌝ }
+    ensures { λ r. ⌜ Permits (settleOne refusedParts 0 answer (pick (now (ids .entry)) (undigit (now (row .entry)))) (now (out .entry))) r (now (out .exit)) ⌝ }
 {
-    of_kind(0, 0, 0, *b"                        ")
+    if out.len() < row.len() {
+        return refused(Refusal::SHORT_OUTPUT);
+    }
+    gather_within(ids, row, out);
+    answer
 }

@@ -6,15 +6,14 @@ ghost use lib.Dec.{leb};
 ghost use lib.ListN.{length};
 ghost use Rattle.base.specs.Kinds.{elementLimit};
 ghost use Rattle.base.specs.Outcome.{Permits};
-ghost use Rattle.parts.specs.Subentities.{codimOf, codimRefusal, depth, pgonParts, phedParts, refusedParts, subentitiesOutcome, subentitiesRefusal, tableParts, toBoth, toFirst};
+ghost use Rattle.parts.specs.Subentities.{codimOf, codimRefusal, depth, pgonParts, phedParts, refusedParts, subentitiesOutcome, subentitiesRefusal, toBoth, toFirst};
 use super::phed::tally_faces;
 use super::phed::write_faces;
 use super::polygon::write_sides;
-use super::rows::row_of;
+use super::rows::table_parts;
 use base::checks::element_refusal;
 use base::kinds::Kind;
 use base::lent::copy;
-use base::lent::gather_digits;
 use base::refusals::Refusal;
 
 // How far below the element its sub-entities lie. Absent means 1.
@@ -146,26 +145,6 @@ fn depth(kind: u64) -> u64
     }
 }
 
-// The sub-entities of a kind with a table.
-fn table_parts(kind: u64, codim: u64, ids: &[u64], out: &mut [u64]) -> Parts
-    ensures { λ r. ⌜ Permits (toFirst (tableParts kind codim (now (ids .entry))) (now (out .entry))) r (now (out .exit)) ⌝ }
-{
-    let row = row_of(kind, codim);
-    let size = row.size;
-    if out.len() < size {
-        return refused(Refusal::SHORT_OUTPUT);
-    }
-    let digits = row.digits;
-    gather_digits(ids, &digits[0..size], out);
-    Parts {
-        refusal: 0,
-        kind: row.kind,
-        count: row.count,
-        kind2: row.kind2,
-        count2: row.count2,
-    }
-}
-
 // The sides of a polygon, or else its vertices.
 fn pgon_parts(codim: u64, ids: &[u64], out: &mut [u64]) -> Parts
     requires { ⌜ length (now ids) ≤ elementLimit ⌝ }
@@ -208,7 +187,7 @@ fn phed_parts(ids: &[u64], out: &mut [u64], ends: &mut [u64]) -> Parts
     given(Kind::PGON, tally.faces)
 }
 
-fn given(kind: u64, count: usize) -> Parts
+pub fn given(kind: u64, count: usize) -> Parts
     ensures { λ r. ⌜ r ≡ record { refusal = 0; kind = kind; count = count; kind2 = 0; count2 = 0 } ⌝ }
 {
     Parts {

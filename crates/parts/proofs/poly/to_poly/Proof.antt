@@ -3,10 +3,12 @@ use borrow.Author.Needs.{needs}
 use borrow.Author.Tests.{ne-eqb}
 use mathlib.Core.Path.{_≡_, refl, sym, _∙_}
 use Rattle.base.specs.Kinds.{nodesOf}
-use Rattle.base.proofs.Settle.{settle-refuses}
+use Rattle.base.specs.Checks.{elementRefusal}
+use Rattle.base.proofs.Settle.{settle-refuses, or-else-none}
 use Rattle.faces.specs.Faces.{further, joined}
 use Rattle.parts.specs.Tables.{tableOf}
 use Rattle.parts.specs.Poly.{toPoly, polyRefusal, polyIds, polyKind}
+use Rattle.parts.proofs.Fitting.{nodes-are}
 use Rattle.parts.proofs.poly.to_poly.Statement.{statement}
 use Rattle.parts.proofs.poly.to_poly.Tie as tie
 
@@ -21,6 +23,13 @@ ok : (c : tie.Else1) →
     let a = c .before .before .before .before .args in
     polyRefusal (a .kind) (a .ids .now) ≡ 0
 ok c = sym (c .before .poly-refusal .ensures) ∙ c .if1 .left
+
+-- nor does an input check
+accepted : (c : tie.Else1) →
+    let a = c .before .before .before .before .args in
+    elementRefusal (a .kind) (a .ids .now) ≡ 0
+unfolding polyRefusal
+accepted c = or-else-none _ _ (ok c) .0
 
 returns-2 : tie.Need-returns-2
 unfolding toPoly polyIds polyKind tableOf nodesOf joined further
@@ -59,11 +68,21 @@ returns-5 c =
     (p .write-copy .ensures)
 
 pub to-poly-spec : {M : Type 1} → statement M
+unfolding nodesOf
 to-poly-spec =
     tie.close
     (tie.spec
     (λ c κs. search needs) (λ c κs. search needs) returns
-    (λ c. search needs) (λ c κs. search needs) (λ c. search needs) returns-2
-    (λ c. search needs) (λ c κs. search needs) (λ c. search needs) returns-3
-    (λ c. search needs) (λ c κs. search needs) (λ c. search needs) returns-4
+    (λ c. search needs)
+    (λ c κs. let t = c .before .before in rw (nodes-are _ _ _ (accepted (t .before)) (t .if2 .taken) refl))
+    (λ c. search needs)
+    returns-2
+    (λ c. search needs)
+    (λ c κs. let t = c .before .before in rw (nodes-are _ _ _ (accepted (t .before .before)) (t .if3 .taken) refl))
+    (λ c. search needs)
+    returns-3
+    (λ c. search needs)
+    (λ c κs. let t = c .before .before in rw (nodes-are _ _ _ (accepted (t .before .before .before)) (t .if4 .taken) refl))
+    (λ c. search needs)
+    returns-4
     (λ c κs. search needs) (λ c κs. search needs) (λ c. search needs) returns-5)

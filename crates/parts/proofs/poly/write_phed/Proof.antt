@@ -23,7 +23,7 @@ returns-2 c =
     let a = e .before .before .before .before .args in
     let room : length (pick (a .ids .now) (undigit (a .row .now))) ≤ length (a .out .now) = rw length-undigit (e .if1 .left) in
     rw (settle-gives 0 _ _ (pick (a .ids .now) (undigit (a .row .now))) (a .out .now) refl room)
-    (record { answered = rw length-undigit (c .given .ensures); left = c .before .before .before .gather-digits .ensures })
+    (record { answered = rw length-undigit (c .given .ensures); left = c .before .before .before .gather-within .ensures })
 
 pub write-phed-spec : {M : Type 1} → statement M
 write-phed-spec =

@@ -62,6 +62,10 @@ returns-3 c =
     )
     (only-first refusedParts 0 _ _ (a .out .now) (a .ends .now) _ _ (p .pgon-parts .ensures))
 
+table-parts-requires : tie.Need-table-parts-requires
+unfolding subentitiesRefusal
+table-parts-requires c κs = or-else-none _ _ (ok (c .before .before .before)) .0
+
 returns-4 : tie.Need-returns-4
 unfolding subentitiesOutcome entities
 returns-4 c =
@@ -83,4 +87,4 @@ subentities-spec =
     (λ c κs. search needs) (λ c κs. search needs) (λ c κs. search needs) returns
     (λ c κs. search needs) (λ c. search needs) (λ c. search needs) returns-2
     pgon-parts-requires (λ c. search needs) returns-3
-    (λ c κs. search needs) (λ c. search needs) returns-4)
+    table-parts-requires (λ c. search needs) returns-4)
