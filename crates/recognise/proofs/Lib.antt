@@ -6,3 +6,5 @@ pub mod Nodes
 pub mod Found
 pub mod Never
 pub mod Claims
+pub mod Numbering
+pub mod Usual
