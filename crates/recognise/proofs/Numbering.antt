@@ -13,11 +13,9 @@ use lib.ListN.{length, getD, set, drop, drop-of-length-le, replicate}
 use lib.Seq.{drop-cons, getD-set-same, getD-set-other}
 use borrow.Author.Tests.{eqb-true, eqb-false, eq-eqb, ne-eqb, ltb-true, ltb-false}
 use Rattle.base.specs.Kinds.{separator}
-use Rattle.base.proofs.Picks.{within-default}
 use Rattle.base.proofs.Tests.{and-true}
-use Rattle.faces.specs.Edges.{Edge, edge, same, hits, count, twice}
-use Rattle.recognise.specs.Numbers.{placeOf, pair, edgeBy, edgesBy, closedBy, edgeNumber, met, metTwice, Small, Numbered, Counted, Zeros, Within}
-use Rattle.recognise.specs.Seek.{nth}
+use Rattle.faces.specs.Edges.{Edge, same, hits, count, twice}
+use Rattle.recognise.specs.Numbers.{placeOf, pair, edgeBy, edgesBy, closedBy, edgeNumber, met, metTwice, Numbered, Zeros, Within}
 
 -- a node's first place is not behind it
 pub place-within : (nodes : List ℕ) (i : ℕ) → i < length nodes → placeOf nodes (getD nodes i separator) ≤ i

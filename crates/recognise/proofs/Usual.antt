@@ -3,7 +3,7 @@
 use Prim.Native.Nat.{ℕ, zero, suc, _+_, _≤_, _<_}
 use mathlib.Core.Path.{_≡_, refl, sym, ap, _∙_}
 use mathlib.Core.List.{List, [], _∷_}
-use mathlib.Core.Bool.{Bool, true, false, cond, not, _&&_, false≢true}
+use mathlib.Core.Bool.{Bool, true, false, _&&_}
 use native.Mathlib.Omega.{arith}
 use lib.Dec.{eqb, ltb}
 use lib.ListN.{length, getD, drop, drop-of-length-le, List·getD-eq-default}
@@ -12,11 +12,11 @@ use borrow.Author.Tests.{eqb-true, eqb-false, ltb-true, ltb-false, not-true}
 use Rattle.base.specs.Gather.{pick}
 use Rattle.base.specs.Kinds.{separator}
 use Rattle.base.proofs.Tests.{and-true}
-use Rattle.faces.specs.Edges.{along, closed, edges}
+use Rattle.faces.specs.Edges.{along, edges}
 use Rattle.faces.specs.Faces.{faces, full, runs}
 use Rattle.faces.proofs.Walk.{no-more}
-use Rattle.recognise.specs.Laid.{isNode, triAt, quadAt, laidTet, laidBrick, laidWedge, tetNodes, brickQuads, wedgeTris, wedgeQuads, triNext, quadNext, closedTet, closedBrick}
-use Rattle.recognise.specs.Numbers.{edgesBy, Small, Within}
+use Rattle.recognise.specs.Laid.{isNode, triAt, quadAt, laidTet, laidBrick, laidWedge, tetNodes, brickQuads, wedgeTris, wedgeQuads, closedTet, closedBrick}
+use Rattle.recognise.specs.Numbers.{edgesBy}
 use Rattle.recognise.specs.Recognise.{fromFaces, fromPhed, mixed, nodesIn, otherLength, regular, tally}
 use Rattle.recognise.specs.Seek.{nth}
 use Rattle.recognise.specs.Wedge.{wedge}

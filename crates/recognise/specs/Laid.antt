@@ -11,7 +11,6 @@ use Rattle.recognise.specs.Cells.{Cell, none}
 use Rattle.recognise.specs.Numbers.{closedBy}
 use Rattle.recognise.specs.Seek.{nth}
 use Rattle.recognise.specs.Tet.{tet}
-use Rattle.recognise.specs.Wedge.{wedge}
 
 abbrev pub isNode : List ℕ → ℕ → Bool
 isNode l i = not (eqb (nth l i) separator)

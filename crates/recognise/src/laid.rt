@@ -37,8 +37,8 @@ pub fn is_laid_brick(ids: &[u64]) -> bool
     ensures { λ r. ⌜ r ≡ laidBrick (now (ids .entry)) ⌝ }
 {
     if ids.len() == BRICK_LIST {
-        let front = is_quad(ids, 15) & (is_quad(ids, 20) & is_quad(ids, 25));
-        return is_quad(ids, 0) & (is_quad(ids, 5) & (is_quad(ids, 10) & front));
+        let last = is_quad(ids, 15) & (is_quad(ids, 20) & is_quad(ids, 25));
+        return is_quad(ids, 0) & (is_quad(ids, 5) & (is_quad(ids, 10) & last));
     }
     false
 }

@@ -45,4 +45,4 @@ pub laid-brick-spec : {M : Type 1} → statement M
 laid-brick-spec =
     tie.close
     (tie.spec (λ c κs. tt) (λ c. search needs) (λ c. search needs) closes-requires (λ c κs. tt) returns
-    (λ c. search needs) (λ c κs. tt) returns-2)
+    (λ c κs. tt) returns-2)

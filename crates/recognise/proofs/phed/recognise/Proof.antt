@@ -1,5 +1,4 @@
 -- `phed::recognise` meets its contract: a list that is laid out so is the cell that its places make.
-use borrow.Author.Needs.{needs}
 use mathlib.Core.Path.{sym, _∙_}
 use Rattle.recognise.proofs.Found.{holds-as}
 use Rattle.recognise.proofs.Usual.{laid-tet, laid-brick, laid-wedge}
