@@ -6,4 +6,6 @@ pub mod Nodes
 pub mod Found
 pub mod Never
 pub mod Claims
+pub mod Numbering
+pub mod Usual
 mod Examples

@@ -3,8 +3,10 @@ pub mod Filling
 pub mod Cells
 pub mod Seek
 pub mod Tet
+pub mod Numbers
 pub mod Wedge
 pub mod Brick
+pub mod Laid
 pub mod Recognise
 pub mod FromPoly
 pub mod Claims

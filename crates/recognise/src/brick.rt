@@ -11,6 +11,10 @@ use super::surface::same;
 use base::lent::node;
 use base::refusals::Refusal;
 
+// The nodes of six quads. A reference to so many needs no length beside it, so the readers below know
+// at once that they stay within.
+pub const QUADS: usize = 24;
+
 // A brick's faces are numbered from 0 to 5; 6 stands for none.
 const NONE: usize = 6;
 
@@ -23,7 +27,7 @@ pub struct Sides {
 }
 
 // The bottom, and the nodes above it.
-pub fn brick(quads: &[u64]) -> Found
+pub fn brick(quads: &[u64; QUADS]) -> Found
     ensures { λ r. ⌜ Holds (brick (now (quads .entry))) r ⌝ }
 {
     let o = opposite(quads);
@@ -38,7 +42,7 @@ pub fn brick(quads: &[u64]) -> Found
 }
 
 // The first face after the bottom that shares no node with it, or none.
-fn opposite(quads: &[u64]) -> usize
+fn opposite(quads: &[u64; QUADS]) -> usize
     ensures { λ r. ⌜ (r ≡ opposite (now (quads .entry))) × (r ≤ 6) ⌝ }
 {
     let mut k = 1;
@@ -53,7 +57,7 @@ fn opposite(quads: &[u64]) -> usize
 }
 
 // Whether quad k shares a node with the bottom.
-fn touches(quads: &[u64], k: usize) -> bool
+fn touches(quads: &[u64; QUADS], k: usize) -> bool
     requires { ⌜ k < 8 ⌝ }
     ensures { λ r. ⌜ r ≡ touches (now (quads .entry)) k ⌝ }
 {
@@ -64,7 +68,7 @@ fn touches(quads: &[u64], k: usize) -> bool
     a | (b | (c | d))
 }
 
-fn in_bottom(quads: &[u64], x: u64) -> bool
+fn in_bottom(quads: &[u64; QUADS], x: u64) -> bool
     ensures { λ r. ⌜ r ≡ inBottom (now (quads .entry)) x ⌝ }
 {
     let a = corner(quads, 0, 0);
@@ -75,7 +79,7 @@ fn in_bottom(quads: &[u64], x: u64) -> bool
 }
 
 // Corner j of quad k, going round.
-pub fn corner(quads: &[u64], k: usize, j: usize) -> u64
+fn corner(quads: &[u64; QUADS], k: usize, j: usize) -> u64
     requires { ⌜ k < 8 ⌝ }
     ensures { λ r. ⌜ r ≡ corner (now (quads .entry)) k j ⌝ }
 {
@@ -83,7 +87,7 @@ pub fn corner(quads: &[u64], k: usize, j: usize) -> u64
 }
 
 // The side faces, o being the opposite face.
-fn sides_at_edges(quads: &[u64], o: usize) -> Sides
+fn sides_at_edges(quads: &[u64; QUADS], o: usize) -> Sides
     ensures { λ r. ⌜ (r ≡ sides (now (quads .entry)) o) × Near r ⌝ }
 {
     Sides {
@@ -102,7 +106,7 @@ fn lacks_one(sides: Sides) -> bool
 }
 
 // The first face with bottom edge j that is neither the bottom nor o, or none.
-fn side(quads: &[u64], o: usize, j: usize) -> usize
+fn side(quads: &[u64; QUADS], o: usize, j: usize) -> usize
     requires { ⌜ j ≤ 4 ⌝ }
     ensures { λ r. ⌜ (r ≡ side (now (quads .entry)) o j) × (r ≤ 6) ⌝ }
 {
@@ -119,7 +123,7 @@ fn side(quads: &[u64], o: usize, j: usize) -> usize
 }
 
 // Whether quad k is not o and has the edge between a and b.
-fn is_side(quads: &[u64], o: usize, k: usize, a: u64, b: u64) -> bool
+fn is_side(quads: &[u64; QUADS], o: usize, k: usize, a: u64, b: u64) -> bool
     requires { ⌜ k < 8 ⌝ }
     ensures { λ r. ⌜ r ≡ (not (eqb k o) && hasEdge (now (quads .entry)) k a b) ⌝ }
 {
@@ -129,7 +133,7 @@ fn is_side(quads: &[u64], o: usize, k: usize, a: u64, b: u64) -> bool
     has_edge(quads, k, a, b)
 }
 
-fn has_edge(quads: &[u64], k: usize, a: u64, b: u64) -> bool
+fn has_edge(quads: &[u64; QUADS], k: usize, a: u64, b: u64) -> bool
     requires { ⌜ k < 8 ⌝ }
     ensures { λ r. ⌜ r ≡ hasEdge (now (quads .entry)) k a b ⌝ }
 {
@@ -141,7 +145,7 @@ fn has_edge(quads: &[u64], k: usize, a: u64, b: u64) -> bool
 }
 
 // The brick on the bottom with these side faces.
-fn brick_from(quads: &[u64], sides: Sides) -> Found
+fn brick_from(quads: &[u64; QUADS], sides: Sides) -> Found
     requires { ⌜ Near sides ⌝ }
     ensures { λ r. ⌜ Holds (cell 15 (brickNodes (now (quads .entry)) sides)) r ⌝ }
 {
@@ -162,7 +166,7 @@ fn brick_from(quads: &[u64], sides: Sides) -> Found
 }
 
 // The node above a bottom node, found in the side face at the first edge with that end.
-fn top(quads: &[u64], sides: Sides, x: u64) -> u64
+fn top(quads: &[u64; QUADS], sides: Sides, x: u64) -> u64
     requires { ⌜ Near sides ⌝ }
     ensures { λ r. ⌜ r ≡ top (now (quads .entry)) sides x ⌝ }
 {
@@ -187,7 +191,7 @@ fn side_at(sides: Sides, j: usize) -> usize
 
 // The first bottom edge with the end x. It goes by id, not by place: a node that stands twice in the
 // bottom has one node above it.
-fn home(quads: &[u64], x: u64) -> usize
+fn home(quads: &[u64; QUADS], x: u64) -> usize
     ensures { λ r. ⌜ r ≡ home (now (quads .entry)) x ⌝ }
 {
     let a = corner(quads, 0, 0) == x;
@@ -199,7 +203,7 @@ fn home(quads: &[u64], x: u64) -> usize
 
 // The node above x in side face k: the neighbour before its first place, unless that is a bottom
 // node, else the one after.
-fn above(quads: &[u64], k: usize, x: u64) -> u64
+fn above(quads: &[u64; QUADS], k: usize, x: u64) -> u64
     requires { ⌜ k < 8 ⌝ }
     ensures { λ r. ⌜ r ≡ above (now (quads .entry)) k x ⌝ }
 {
@@ -212,7 +216,7 @@ fn above(quads: &[u64], k: usize, x: u64) -> u64
 }
 
 // The first place of x in quad k, or 4.
-fn place(quads: &[u64], k: usize, x: u64) -> usize
+fn place(quads: &[u64; QUADS], k: usize, x: u64) -> usize
     requires { ⌜ k < 8 ⌝ }
     ensures { λ r. ⌜ (r ≡ place (now (quads .entry)) k x) × (r ≤ 4) ⌝ }
 {

@@ -13,7 +13,9 @@ use cells::Found;
 
 mod brick;
 mod cells;
+mod laid;
 mod lengths;
+mod numbers;
 mod phed;
 mod surface;
 mod tet;

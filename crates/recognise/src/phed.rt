@@ -4,6 +4,12 @@ ghost use Rattle.recognise.specs.Cells.{Holds};
 ghost use Rattle.recognise.specs.Recognise.{fromPhed, mixed, regular};
 use super::brick::brick;
 use super::cells::Found;
+use super::laid::is_laid_brick;
+use super::laid::is_laid_tet;
+use super::laid::is_laid_wedge;
+use super::laid::laid_brick;
+use super::laid::laid_tet;
+use super::laid::laid_wedge;
 use super::lengths::nodes_in;
 use super::lengths::other_length;
 use super::lengths::tally;
@@ -22,8 +28,24 @@ const WEDGE_TRIS: usize = 6;
 
 const WEDGE_QUADS: usize = 12;
 
-// The cell that the faces make: 8 if there is none, 10 if they are of three lengths or more.
+// The cell that the faces make. The usual lists are told apart first.
 pub fn recognise(ids: &[u64]) -> Found
+    ensures { λ r. ⌜ Holds (fromPhed (now (ids .entry))) r ⌝ }
+{
+    if is_laid_tet(ids) {
+        return laid_tet(ids);
+    }
+    if is_laid_brick(ids) {
+        return laid_brick(ids);
+    }
+    if is_laid_wedge(ids) {
+        return laid_wedge(ids);
+    }
+    by_lengths(ids)
+}
+
+// The same for any list: 8 if there is no face, 10 if they are of three lengths or more.
+fn by_lengths(ids: &[u64]) -> Found
     ensures { λ r. ⌜ Holds (fromPhed (now (ids .entry))) r ⌝ }
 {
     let first = other_length(ids, 0, 0);

@@ -2,8 +2,8 @@
 ghost use mathlib.Core.Path.{_≡_};
 ghost use Prim.Native.Nat.{_<_, _≤_};
 ghost use Rattle.recognise.specs.Cells.{cell, Holds};
+ghost use Rattle.recognise.specs.Seek.{corner};
 ghost use Rattle.recognise.specs.Wedge.{placeInSecond, runsAt, runsIn, wedge, wedgeNodes};
-use super::brick::corner;
 use super::brick::first_of_four;
 use super::cells::Found;
 use base::lent::node;
@@ -76,6 +76,14 @@ fn runs_at(quads: &[u64], k: usize, v: u64, w: u64) -> usize
         (c == v) & (d == w),
         (d == v) & (a == w),
     )
+}
+
+// Corner j of quad k, going round.
+fn corner(quads: &[u64], k: usize, j: usize) -> u64
+    requires { ⌜ k < 8 ⌝ }
+    ensures { λ r. ⌜ r ≡ corner (now (quads .entry)) k j ⌝ }
+{
+    node(quads, 4 * k + j % 4)
 }
 
 // The place of a node in the second triangle, or none.

@@ -22,14 +22,14 @@ loop-holds c = (search needs, refl)
 loop-again : tie.Need-loop-again Inv-loop μ-loop
 loop-again c =
     let k = c .before .before .before in
-    let t : not (touches (k .before .before .args .quads .now) (k .loop .k)) ≡ false =
+    let t : not (touches (k .before .args .quads .now) (k .loop .k)) ≡ false =
     rw (← c .before .touches .ensures, c .if1 .taken) in
     (search needs, seek-on _ _ 6 _ (k .loop .inv .1) (search needs) t)
 
 returns : tie.Need-returns Inv-loop μ-loop
 returns c =
     let k = c .before .before .before in
-    let t : not (touches (k .before .before .args .quads .now) (k .loop .k)) ≡ true =
+    let t : not (touches (k .before .args .quads .now) (k .loop .k)) ≡ true =
     rw (← c .before .touches .ensures, c .if1 .left) in
     (seek-here _ _ 6 _ (k .loop .inv .1) (search needs) t, search needs)
 

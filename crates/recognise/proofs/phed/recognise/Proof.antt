@@ -1,63 +1,21 @@
--- `phed::recognise` meets its contract: each return knows how the tests above it went.
-use borrow.Author.Needs.{needs}
-use borrow.Author.Tests.{eq-eqb, ne-eqb}
-use Rattle.recognise.specs.Recognise.{fromFaces}
+-- `phed::recognise` meets its contract: a list that is laid out so is the cell that its places make.
+use mathlib.Core.Path.{sym, _∙_}
 use Rattle.recognise.proofs.Found.{holds-as}
+use Rattle.recognise.proofs.Usual.{laid-tet, laid-brick, laid-wedge}
 use Rattle.recognise.proofs.phed.recognise.Statement.{statement}
 use Rattle.recognise.proofs.phed.recognise.Tie as tie
 
 returns : tie.Need-returns
-unfolding fromFaces
-returns c = holds-as (c .refused .ensures) (rw (
-  ← c .before .before .other-length .ensures,
-  eq-eqb _ _ (c .before .if1 .taken),
-))
+returns c = holds-as (c .laid-tet .ensures) (laid-tet _ (sym (c .before .before .is-laid-tet .ensures) ∙ c .before .if1 .taken))
 
 returns-2 : tie.Need-returns-2
-unfolding fromFaces
-returns-2 c =
-    let b = c .before .before in
-    holds-as (c .regular .ensures)
-    (rw (
-      ← b .before .before .other-length .ensures,
-      ne-eqb _ _ (b .before .if1 .left),
-      ← b .other-length2 .ensures,
-      eq-eqb _ _ (c .before .if2 .taken),
-    ))
+returns-2 c = holds-as (c .laid-brick .ensures) (laid-brick _ (sym (c .before .before .is-laid-brick .ensures) ∙ c .before .if2 .taken))
 
 returns-3 : tie.Need-returns-3
-unfolding fromFaces
-returns-3 c =
-    let t = c .before .before in
-    let b = t .before .before in
-    holds-as (c .mixed .ensures)
-    (rw (
-      ← b .before .before .other-length .ensures,
-      ne-eqb _ _ (b .before .if1 .left),
-      ← b .other-length2 .ensures,
-      ne-eqb _ _ (t .before .if2 .left),
-      ← t .other-length3 .ensures,
-      eq-eqb _ _ (c .before .if3 .taken),
-    ))
-
-returns-4 : tie.Need-returns-4
-unfolding fromFaces
-returns-4 c =
-    let t = c .before .before in
-    let b = t .before .before in
-    holds-as (c .refused2 .ensures)
-    (rw (
-      ← b .before .before .other-length .ensures,
-      ne-eqb _ _ (b .before .if1 .left),
-      ← b .other-length2 .ensures,
-      ne-eqb _ _ (t .before .if2 .left),
-      ← t .other-length3 .ensures,
-      ne-eqb _ _ (c .before .if3 .left),
-    ))
+returns-3 c = holds-as (c .laid-wedge .ensures) (laid-wedge _ (sym (c .before .before .is-laid-wedge .ensures) ∙ c .before .if3 .taken))
 
 pub recognise-spec : {M : Type 1} → statement M
 recognise-spec =
     tie.close
-    (tie.spec (λ c κs. search needs) (λ c κs. search needs) returns (λ c κs. search needs)
-    (λ c κs. search needs) returns-2 (λ c κs. search needs) (λ c κs. search needs) returns-3
-    (λ c κs. search needs) returns-4)
+    (tie.spec (λ c κs. tt) (λ c κs. tt) returns (λ c κs. tt) (λ c κs. tt) returns-2 (λ c κs. tt) (λ c κs. tt) returns-3
+    (λ c κs. tt) (λ c. c .by-lengths .ensures))

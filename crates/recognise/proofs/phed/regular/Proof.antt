@@ -88,5 +88,5 @@ regular-spec =
     tie.close
     (tie.spec (λ c κs. search needs) (λ c κs. search needs) returns (λ c κs. search needs) (λ c. search needs)
     nodes-in-requires (λ c. search needs) (λ c κs. search needs) returns-2 (λ c κs. search needs)
-    (λ c. search needs) nodes-in-requires-2 (λ c. search needs) (λ c κs. search needs) returns-3
+    (λ c. search needs) nodes-in-requires-2 (λ c κs. search needs) returns-3
     (λ c κs. search needs) returns-4)
