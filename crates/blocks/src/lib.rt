@@ -149,17 +149,15 @@ fn write_bricks(ids: &[u64], n: usize, out: &mut [u64]) -> u64
     let renumberings = tables::renumberings();
     let mut row = row_at(&renumberings, ids, 0);
     let mut at = 0;
-    let mut count = 0;
     let mut i = 0;
     while i < n {
         let next_row = row_at(&renumberings, ids, lesser(i + 1, n - 1));
         let tetrahedra = write_brick(&table, row, ids, i, out, at);
         row = next_row;
         at += tetrahedra as usize * TET4_IDS;
-        count += tetrahedra;
         i += 1;
     }
-    count
+    (at / TET4_IDS) as u64
 }
 
 fn lesser(a: usize, b: usize) -> usize

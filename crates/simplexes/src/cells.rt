@@ -1,18 +1,16 @@
 // The one-cell writer: the simplexes of a cell over the front of a lent slice.
 ghost use mathlib.Core.Bool.{cond};
+ghost use mathlib.Core.List.{[]};
 ghost use mathlib.Core.Path.{_≡_};
-ghost use Prim.Native.Nat.{_<_, _≤_};
+ghost use Prim.Native.Nat.{_<_, _≤_, min};
 ghost use lib.Dec.{eqb};
 ghost use lib.ListN.{getD, length};
-ghost use mathlib.Core.List.{[]};
-ghost use Prim.Native.Nat.{min};
-ghost use Rattle.simplexes.specs.Rows.{branch, renumberings};
-ghost use Rattle.simplexes.specs.Strings.{caseStrings};
 ghost use Rattle.base.specs.Gather.{corners, digits, undigit};
 ghost use Rattle.base.specs.Kinds.{nodesOf};
-ghost use Rattle.simplexes.specs.Rows.{quadRows, segRows};
+ghost use Rattle.simplexes.specs.Rows.{branch, quadRows, renumberings, segRows};
 ghost use Rattle.simplexes.specs.Smallest.{firstDiagonal, smallestPos};
 ghost use Rattle.simplexes.specs.Split.{Written, cut, hexCase, hexCut, renumbered, simplexes, split, splitCount, splitKind, wedgeCut};
+ghost use Rattle.simplexes.specs.Strings.{caseStrings};
 use super::smallest::first_diagonal;
 use super::smallest::on_first;
 use super::smallest::smallest;

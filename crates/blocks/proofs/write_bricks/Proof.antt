@@ -3,7 +3,7 @@
 use borrow.Author.Needs.{needs}
 use mathlib.Core.Path.{_≡_, refl, _∙_, ap}
 use mathlib.Core.List.{List}
-use Prim.Native.Nat.{ℕ, _+_, _*_, _-_, _≤_, _<_, min}
+use Prim.Native.Nat.{ℕ, _+_, _*_, _-_, _/_, _≤_, _<_, min}
 use native.Mathlib.Omega.{arith}
 use lib.ListN.{length, take, drop}
 use Rattle.base.specs.Kinds.{nodesOf}
@@ -13,7 +13,7 @@ use Rattle.simplexes.specs.Split.{split}
 use Rattle.simplexes.specs.Demand3.{splits}
 use Rattle.simplexes.specs.Table.{hexPlace}
 use Rattle.blocks.specs.Blocks.{cells, counts}
-use Rattle.blocks.proofs.Parts.{brick-ids, bricks-ids, cellAt, counts-more, next-room, next-fits, next-at, next-written, cell-left}
+use Rattle.blocks.proofs.Parts.{brick-ids, bricks-ids, cellAt, next-room, next-fits, next-at, next-written, cell-left}
 use Rattle.blocks.proofs.write_bricks.Statement.{statement}
 use Rattle.blocks.proofs.write_bricks.Tie as tie
 
@@ -22,15 +22,14 @@ abbrev rowOf : List ℕ → ℕ → ℕ
 rowOf ids i = hexPlace (take 8 (drop (i * 8) ids))
 
 abbrev Inv-loop : tie.InvT-loop
-Inv-loop ids n out₀ table renumberings row₀ at₀ count₀ i₀ out row at count i =
+Inv-loop ids n out₀ table renumberings row₀ at₀ i₀ out row at i =
     (i ≤ n) × (length out ≡ length out₀)
     × (at ≡ length (splits (cells 15 i ids)))
-    × (count ≡ counts (cells 15 i ids))
     × (out ≡ overwrite (splits (cells 15 i ids)) out₀)
     × (row ≡ rowOf ids (min i (n - 1)))
 
 abbrev μ-loop : tie.MeasureT-loop
-μ-loop ids n out₀ table renumberings row₀ at₀ count₀ i₀ out row at count i = n - i
+μ-loop ids n out₀ table renumberings row₀ at₀ i₀ out row at i = n - i
 
 none : tie.Need-returns Inv-loop μ-loop
 unfolding cells counts overwrite
@@ -41,7 +40,7 @@ unfolding cells counts overwrite
 loop-holds c =
     let s = c .before .before .before .before .before .before .before in
     let e : 0 ≡ min 0 (s .args .n - 1) = omega arith in
-    (search needs, refl, refl, refl, refl, c .row-at .ensures ∙ ap (rowOf (s .args .ids .now)) e)
+    (search needs, refl, refl, refl, c .row-at .ensures ∙ ap (rowOf (s .args .ids .now)) e)
 
 -- as the function was entered
 abbrev start : tie.At-loop Inv-loop μ-loop → tie.Start Inv-loop μ-loop
@@ -67,10 +66,6 @@ size : (c : tie.After-write-brick Inv-loop μ-loop) → c .write-brick .result *
 unfolding nodesOf
 size c = ap (λ (k : ℕ). k * 4) (c .write-brick .ensures .0) ∙ brick-ids (cell (turn c .before))
 
-most : (c : tie.After-slice-known2 Inv-loop μ-loop)
-    → turn (c .before .before) .before .loop .at + c .before .before .write-brick .result * 4 < 18446744073709551616
-most c = omega (arith, size (c .before .before), room (turn (c .before .before)))
-
 loop-again : tie.Need-loop-again Inv-loop μ-loop
 unfolding nodesOf
 loop-again c =
@@ -79,13 +74,12 @@ loop-again c =
     let s = start l in
     let ids = s .args .ids .now in
     let i = l .loop .i in
-    let wrote = next-written 15 ids i (l .loop .at) (l .loop .inv .2) (l .loop .out) (s .args .out .now) _ (l .loop .inv .4) (k .write-brick .ensures .1) in
+    let wrote = next-written 15 ids i (l .loop .at) (l .loop .inv .2) (l .loop .out) (s .args .out .now) _ (l .loop .inv .3) (k .write-brick .ensures .1) in
     let long = next-fits 15 ids i (s .args .n) _ (turn k .loop-test .taken) (s .pre .1) in
     let found = k .before .before .before in (
       search needs,
       ap length wrote ∙ length-overwrite _ _ long,
       next-at 15 ids i (l .loop .at) (l .loop .inv .2) (k .write-brick .result) (size k),
-      omega (arith, k .write-brick .ensures .0, l .loop .inv .3, counts-more 15 ids i),
       wrote,
       found .row-at2 .ensures ∙ ap (rowOf ids) (found .before .lesser .ensures),
     )
@@ -118,22 +112,21 @@ write-bricks-spec =
     let e : min (l .loop .i) (s .args .n - 1) ≡ l .loop .i = omega arith in (
       (
         l .before .before .before .before .hex-table .ensures,
-        l .loop .inv .5 ∙ ap (rowOf (s .args .ids .now)) e,
+        l .loop .inv .4 ∙ ap (rowOf (s .args .ids .now)) e,
         cell-left (l .loop .i) (s .args .n) 8 _ (k .loop-test .taken) (s .pre .0),
       ),
       room k,
     ))
     (λ c. record { fits = omega (arith, size (c .before .before), room (turn (c .before .before))) })
     (λ c. record { fits = omega (arith, size (c .before .before), room (turn (c .before .before))) })
-    (λ c.
-    let k = c .before .before in
-    let l = turn k .before in
-    record { fits = omega (arith, bricks-ids (l .loop .i) (start l .args .ids .now), l .loop .inv .2, l .loop .inv .3, most c) })
     (λ c. search needs)
     (λ c. search needs)
     loop-again
     (λ c. search needs)
     (λ c.
     let l = c .before in
-    let e : l .loop .i ≡ start l .args .n = omega (arith, l .loop .inv .0) in
-    record { counted = rw (← e) (l .loop .inv .3); written = rw (← e) (l .loop .inv .4) }))
+    let s = start l in
+    let e : l .loop .i ≡ s .args .n = omega (arith, l .loop .inv .0) in
+    let at : l .loop .at / 4 ≡ counts (cells 15 (l .loop .i) (s .args .ids .now)) =
+    omega (arith, l .loop .inv .2, bricks-ids (l .loop .i) (s .args .ids .now)) in
+    record { counted = rw (← e) at; written = rw (← e) (l .loop .inv .3) }))
