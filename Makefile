@@ -2,13 +2,14 @@
 # make test     the whole test; its last line is 'N passed, 0 failed' only if all of it passed
 # make demo     cut the sample door and say what came out
 # make compare  compare every operation with the Rust that is ported, two million calls each
+# make bench    time every operation beside the Rust; with KEEP=1 the tables go into docs/BENCH.md too
 # make vectors  make the stored answers of the Rust anew, which `replay` replays
 # make fmt      lay out every Rattle file
 # make clean    remove what was built
 
 KIT := rattle-kit-5b logic 064da1ca440f63e7
 
-.PHONY: all test demo compare vectors fmt clean kit
+.PHONY: all test demo compare bench vectors fmt clean kit
 
 all: kit
 	@rt check
@@ -24,6 +25,9 @@ demo: kit
 compare: all
 	@host/compare/run
 	@host/compare/check
+
+bench: all
+	@host/bench/run $(if $(KEEP),--keep)
 
 vectors: all
 	@host/compare/vectors

@@ -1,6 +1,12 @@
--- The faces of the kinds that fill space by their corners, in the order and winding of document 01, 'Sub-entities'.
+-- The kinds that fill space, and their faces by corners in the order and winding of document 01, 'Sub-entities'.
 use Prim.Native.Nat.{ℕ}
+use mathlib.Core.Bool.{Bool, _||_}
 use mathlib.Core.List.{List, [], _∷_}
+use lib.Dec.{eqb}
+
+-- TET4, WEDGE6 and HEX8
+abbrev pub isSolid : ℕ → Bool
+isSolid kind = eqb kind 11 || (eqb kind 13 || eqb kind 15)
 
 -- TET4: triangles
 abbrev pub tet4Tris : List ℕ

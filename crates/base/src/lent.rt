@@ -20,19 +20,7 @@ pub fn copy(list: &[u64], out: &mut [u64])
     }
 }
 
-// The ids at a row of corner numbers over the front of out.
-pub fn gather(ids: &[u64], row: &[u8], out: &mut [u64])
-    requires { ⌜ length (now row) ≤ length (now out) ⌝ }
-    ensures { λ _. ⌜ now (out .exit) ≡ overwrite (pick (now (ids .entry)) (now (row .entry))) (now (out .entry)) ⌝ }
-{
-    let mut i = 0;
-    while i < row.len() {
-        out[i] = node(ids, wide(row[i]));
-        i += 1;
-    }
-}
-
-// The same for a row that is written as digits.
+// The ids at a row of corners, written as digits, over the front of out.
 pub fn gather_digits(ids: &[u64], row: &[u8], out: &mut [u64])
     requires { ⌜ length (now row) ≤ length (now out) ⌝ }
     ensures { λ _. ⌜ now (out .exit) ≡ overwrite (pick (now (ids .entry)) (undigit (now (row .entry)))) (now (out .entry)) ⌝ }

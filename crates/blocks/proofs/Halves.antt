@@ -9,6 +9,7 @@ use lib.Dec.{eqb}
 use lib.ListN.{length, drop, length-append, length-drop}
 use lib.Seq.{drop-at, take-append-le, drop-append-le}
 use borrow.Author.Tests.{eq-eqb, ne-eqb, le-ltb}
+use Rattle.base.specs.Solids.{isSolid}
 use Rattle.base.specs.Kinds.{nodesOf, separator, isKind}
 use Rattle.base.specs.Checks.{blockFits, blockRefusal, inputRefusal, holdsSeparator, strays}
 use Rattle.base.specs.Outcome.{overwrite, given}
@@ -16,7 +17,7 @@ use Rattle.base.proofs.Accepted.{block-accepted, block-nodes}
 use Rattle.base.proofs.Lists.{overwrite-front, overwrite-rest, overwrite-more}
 use Rattle.base.proofs.Tests.{or-assoc}
 use Rattle.base.proofs.Settle.{settle-gives}
-use Rattle.simplexes.specs.Demand3.{Cell, isSolid, splits}
+use Rattle.simplexes.specs.Demand3.{Cell, splits}
 use Rattle.blocks.specs.Blocks.{cells, cellsOf, counts, splitBlock, splitBlockRefusal}
 use Rattle.blocks.specs.Promises.{CutAnywhere}
 use Rattle.blocks.proofs.Parts.{taken, solid-is, four-each, cells-append, splits-append, counts-append}

@@ -6,16 +6,17 @@ use Prim.Native.Nat.{ℕ, zero, suc, _+_, _*_, _-_, _/_, _≤_, _<_}
 use native.Mathlib.Nat.{zero-add, suc-add, zero-mul, suc-mul, add-comm, mul-le-mul-left, mul-le-mul-right, div-add-mod'}
 use native.Mathlib.Omega.{arith}
 use lib.Dec.{eqb}
-use lib.ListN.{length, take, drop, length-append}
-use lib.Seq.{drop-drop}
+use lib.ListN.{length, take, drop, length-append, length-drop}
+use lib.Seq.{drop-drop, length-take-le}
 use borrow.Author.Tests.{eqb-true, eqb-false, ne-eqb}
+use Rattle.base.specs.Solids.{isSolid}
 use Rattle.base.specs.Kinds.{nodesOf}
 use Rattle.base.specs.Outcome.{overwrite}
 use Rattle.base.specs.Checks.{blockRefusal}
 use Rattle.base.proofs.Accepted.{block-accepted}
 use Rattle.base.proofs.Lists.{overwrite-more}
 use Rattle.simplexes.specs.Split.{cut, split, splitCount, splitKind}
-use Rattle.simplexes.specs.Demand3.{Cell, isSolid, splits}
+use Rattle.simplexes.specs.Demand3.{Cell, splits}
 use Rattle.simplexes.proofs.Cuts.{split-length, three-rows, rows-most}
 use Rattle.blocks.specs.Blocks.{cells, counts, splitBlockRefusal}
 
@@ -94,6 +95,11 @@ module _ (kind : ℕ) where
           length-append (splits (cells kind i ids)) (split kind (cellAt ids i)),
         )
 
+    pub next-fits : (i n room : ℕ) → i < n → length (splits (cells kind n ids)) ≤ room
+        → length (splits (cells kind (i + 1) ids)) ≤ room
+    next-fits i n room h l =
+        omega (arith, next-room i n room h l, ap length (splits-more i), length-append (splits (cells kind i ids)) (split kind (cellAt ids i)))
+
     -- a turn of the loop that writes them
     module _ (i at : ℕ) (h : at ≡ length (splits (cells kind i ids))) where
       pub next-written : (out entry lent : List ℕ) → out ≡ overwrite (splits (cells kind i ids)) entry
@@ -124,6 +130,15 @@ module _ (kind : ℕ) where
         four-each e n (drop (nodesOf kind) ids),
       )
 
+-- a cell that is lent on as a part of a block
+pub part : (from n : ℕ) (ids : List ℕ) → take (from + n - from) (drop from ids) ≡ take n (drop from ids)
+part from n ids = let e : from + n - from ≡ n = omega arith in rw e
+
+pub part-long : (from n : ℕ) (ids : List ℕ) → from + n ≤ length ids → length (take (from + n - from) (drop from ids)) ≡ n
+part-long from n ids h =
+    let k : n ≤ length (drop from ids) = rw (length-drop from ids) (omega arith) in
+    rw (part from n ids) (length-take-le n (drop from ids) k)
+
 -- a whole cell is left
 pub cell-left : (i n m size : ℕ) → i < n → n * m ≤ size → i * m + m ≤ size
 cell-left i n m size h l =
@@ -150,6 +165,19 @@ pub hex-counts : (n : ℕ) (ids : List ℕ) → counts (cells 15 n ids) ≤ n * 
 unfolding cells counts splitCount
 hex-counts zero ids = omega arith
 hex-counts (suc n) ids = omega (arith, rows-most 15 (take (nodesOf 15) ids), hex-counts n (drop (nodesOf 15) ids))
+
+-- four ids a tetrahedron, of bricks and of wedges
+pub brick-ids : (cell : List ℕ) → splitCount 15 cell * 4 ≡ length (split 15 cell)
+unfolding nodesOf splitKind
+brick-ids cell = four-of-one 15 refl cell
+
+pub bricks-ids : (n : ℕ) (ids : List ℕ) → length (splits (cells 15 n ids)) ≡ counts (cells 15 n ids) * 4
+unfolding nodesOf splitKind
+bricks-ids n ids = four-each 15 refl n ids
+
+pub wedges-ids : (n : ℕ) (ids : List ℕ) → n * 12 ≡ length (splits (cells 13 n ids))
+unfolding nodesOf splitKind
+wedges-ids n ids = omega (arith, four-each 13 refl n ids, wedge-counts n ids)
 
 -- what fills space and is no TET4 and no WEDGE6 is a HEX8
 pub hex-left : (kind : ℕ) → isSolid kind ≡ true → (kind ≡ 11 → ⊥) → (kind ≡ 13 → ⊥) → kind ≡ 15

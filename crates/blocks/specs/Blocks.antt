@@ -4,12 +4,13 @@ use mathlib.Core.Path.{_≡_}
 use mathlib.Core.Bool.{cond}
 use mathlib.Core.List.{List, [], _∷_}
 use lib.ListN.{length, take, drop}
+use Rattle.base.specs.Solids.{isSolid}
 use Rattle.base.specs.Kinds.{nodesOf}
 use Rattle.base.specs.Checks.{blockRefusal}
 use Rattle.base.specs.Outcome.{Outcome, orElse, overwrite, settle}
 use Rattle.base.specs.declared.refusals.Answer.{Answer}
 use Rattle.simplexes.specs.Split.{splitCount}
-use Rattle.simplexes.specs.Demand3.{Cell, isSolid, splits}
+use Rattle.simplexes.specs.Demand3.{Cell, splits}
 
 -- the first n cells of a block, each of as many ids as the kind has nodes
 unfoldable pub cells : ℕ → ℕ → List ℕ → List Cell

@@ -2,13 +2,16 @@
 ghost use mathlib.Core.Path.{_≡_};
 ghost use mathlib.Core.Bool.{true};
 ghost use mathlib.Core.List.{_++_};
-ghost use Prim.Native.Nat.{_*_, _+_, _≤_};
+ghost use Prim.Native.Nat.{_*_, _+_, _-_, _≤_, min};
 ghost use lib.Dec.{leb};
 ghost use lib.ListN.{drop, length, take};
+ghost use Rattle.base.specs.Solids.{isSolid};
 ghost use Rattle.base.specs.Kinds.{nodesOf};
 ghost use Rattle.base.specs.Outcome.{Permits, overwrite};
-ghost use Rattle.simplexes.specs.Demand3.{isSolid, splits};
+ghost use Rattle.simplexes.specs.Demand3.{splits};
 ghost use Rattle.simplexes.specs.Split.{split, splitCount};
+ghost use Rattle.simplexes.specs.Strings.{hexStrings, quadStrings, turnStrings, wedgeStrings};
+ghost use Rattle.simplexes.specs.Table.{hexPlace};
 ghost use Rattle.blocks.specs.Blocks.{Filled, cells, counts, splitBlock, splitBlockRefusal};
 use base::checks::block_refusal;
 use base::kinds::Kind;
@@ -17,6 +20,11 @@ use base::refusals::Answer;
 use base::refusals::Refusal;
 use simplexes::cells::count_hex;
 use simplexes::cells::write_cell;
+use simplexes::solids::hex_row;
+use simplexes::solids::wedge_row;
+use simplexes::solids::write_hex_row;
+use simplexes::solids::write_wedge_row;
+use simplexes::tables;
 
 // The tetrahedra of a block of TET4, WEDGE6 or HEX8 over the front of out, cell after cell. It
 // refuses with 1 to 4, then 6 for another kind, then 7 if out is shorter than what is to be written.
@@ -30,7 +38,7 @@ pub fn split_block(kind: u64, ids: &[u64], out: &mut [u64]) -> Answer
     let nodes = node_count(kind);
     let n = ids.len() / nodes;
     if has_room(kind, ids, n, out.len()) {
-        let count = write_cells(kind, ids, n, out);
+        let count = write_block(kind, ids, n, out);
         return Answer::given(Kind::TET4, count);
     }
     Answer::refused(Refusal::SHORT_OUTPUT)
@@ -112,6 +120,121 @@ fn count_at(ids: &[u64], i: usize) -> usize
 }
 
 // The tetrahedra of the first n cells over the front of out, and their number.
+fn write_block(kind: u64, ids: &[u64], n: usize, out: &mut [u64]) -> u64
+    requires { ⌜ (isSolid kind ≡ true) × (n * nodesOf kind ≤ length (now ids)) × (length (now ids) ≤ 65536) ⌝ }
+    requires { ⌜ length (splits (cells kind n (now ids))) ≤ length (now out) ⌝ }
+    ensures { λ r. ⌜ Filled (cells kind n (now (ids .entry))) (now (out .entry)) r (now (out .exit)) ⌝ }
+{
+    if kind == Kind::HEX8 {
+        return write_bricks(ids, n, out);
+    }
+    if kind == Kind::WEDGE6 {
+        write_wedges(ids, n, out);
+        return n as u64 * 3;
+    }
+    write_cells(kind, ids, n, out)
+}
+
+// The same for bricks. The next brick's row is found before this one is written, so that the search
+// for it and the writing run side by side.
+fn write_bricks(ids: &[u64], n: usize, out: &mut [u64]) -> u64
+    requires { ⌜ n * 8 ≤ length (now ids) ⌝ }
+    requires { ⌜ length (splits (cells 15 n (now ids))) ≤ length (now out) ⌝ }
+    ensures { λ r. ⌜ Filled (cells 15 n (now (ids .entry))) (now (out .entry)) r (now (out .exit)) ⌝ }
+{
+    if n == 0 {
+        return 0;
+    }
+    let table = tables::hex_table();
+    let renumberings = tables::renumberings();
+    let mut row = row_at(&renumberings, ids, 0);
+    let mut at = 0;
+    let mut count = 0;
+    let mut i = 0;
+    while i < n {
+        let next_row = row_at(&renumberings, ids, lesser(i + 1, n - 1));
+        let tetrahedra = write_brick(&table, row, ids, i, out, at);
+        row = next_row;
+        at += tetrahedra as usize * TET4_IDS;
+        count += tetrahedra;
+        i += 1;
+    }
+    count
+}
+
+fn lesser(a: usize, b: usize) -> usize
+    ensures { λ r. ⌜ r ≡ min a b ⌝ }
+{
+    if a < b {
+        return a;
+    }
+    b
+}
+
+// The row of the brick's table for brick i.
+fn row_at(renumberings: &[[u8; 8]; 8], ids: &[u64], i: usize) -> usize
+    requires { ⌜ (now renumberings ≡ turnStrings) × (i * 8 + 8 ≤ length (now ids)) ⌝ }
+    ensures { λ r. ⌜ r ≡ hexPlace (take 8 (drop (i * 8) (now (ids .entry)))) ⌝ }
+{
+    let from = i * Kind::HEX8_NODES;
+    let end = from + Kind::HEX8_NODES;
+    hex_row(renumberings, &ids[from..end])
+}
+
+// The tetrahedra of brick i by its row into the part of out that starts at `at`, and their number.
+fn write_brick(
+    table: &[[u8; 24]; 64],
+    row: usize,
+    ids: &[u64],
+    i: usize,
+    out: &mut [u64],
+    at: usize,
+) -> u64
+    requires { ⌜ (now table ≡ hexStrings) × (row ≡ hexPlace (take 8 (drop (i * 8) (now ids)))) × (i * 8 + 8 ≤ length (now ids)) ⌝ }
+    requires { ⌜ at + length (split 15 (take 8 (drop (i * 8) (now ids)))) ≤ length (now out) ⌝ }
+    ensures { λ r. ⌜ r ≡ splitCount 15 (take 8 (drop (i * 8) (now (ids .entry)))) ⌝ }
+    ensures { λ _. ⌜ now (out .exit) ≡ take at (now (out .entry)) ++ overwrite (split 15 (take 8 (drop (i * 8) (now (ids .entry))))) (drop at (now (out .entry))) ⌝ }
+{
+    let from = i * Kind::HEX8_NODES;
+    let end = from + Kind::HEX8_NODES;
+    write_hex_row(table, row, &ids[from..end], &mut out[at..])
+}
+
+// The same for wedges, three tetrahedra each.
+fn write_wedges(ids: &[u64], n: usize, out: &mut [u64])
+    requires { ⌜ n * 6 ≤ length (now ids) ⌝ }
+    requires { ⌜ length (splits (cells 13 n (now ids))) ≤ length (now out) ⌝ }
+    ensures { λ _. ⌜ now (out .exit) ≡ overwrite (splits (cells 13 n (now (ids .entry)))) (now (out .entry)) ⌝ }
+{
+    let table = tables::wedge_table();
+    let quads = tables::wedge_quads();
+    let mut i = 0;
+    while i < n {
+        write_wedge(&table, &quads, ids, i, out, i * WEDGE6_IDS);
+        i += 1;
+    }
+}
+
+// The tetrahedra of wedge i into the part of out that starts at `at`.
+fn write_wedge(
+    table: &[[u8; 12]; 12],
+    quads: &[[u8; 4]; 6],
+    ids: &[u64],
+    i: usize,
+    out: &mut [u64],
+    at: usize,
+)
+    requires { ⌜ (now table ≡ wedgeStrings) × (now quads ≡ quadStrings) × (i * 6 + 6 ≤ length (now ids)) ⌝ }
+    requires { ⌜ at + length (split 13 (take 6 (drop (i * 6) (now ids)))) ≤ length (now out) ⌝ }
+    ensures { λ _. ⌜ now (out .exit) ≡ take at (now (out .entry)) ++ overwrite (split 13 (take 6 (drop (i * 6) (now (ids .entry))))) (drop at (now (out .entry))) ⌝ }
+{
+    let from = i * Kind::WEDGE6_NODES;
+    let end = from + Kind::WEDGE6_NODES;
+    let row = wedge_row(quads, &ids[from..end]);
+    write_wedge_row(table, row, &ids[from..end], &mut out[at..])
+}
+
+// The same for any kind.
 fn write_cells(kind: u64, ids: &[u64], n: usize, out: &mut [u64]) -> u64
     requires { ⌜ (isSolid kind ≡ true) × (n * nodesOf kind ≤ length (now ids)) ⌝ }
     requires { ⌜ length (splits (cells kind n (now ids))) ≤ length (now out) ⌝ }

@@ -1,3 +1,4 @@
+-- The laws behind sub-entities and poly forms.
 pub mod Tables
 pub mod PolyFaces
 pub mod PolyEdges

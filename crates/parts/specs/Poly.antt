@@ -1,6 +1,6 @@
 -- The poly form of an element, and what `to_poly` answers (document 01, 'To and from poly').
 use Prim.Native.Nat.{ℕ}
-use mathlib.Core.Bool.{Bool, cond, _||_}
+use mathlib.Core.Bool.{cond}
 use mathlib.Core.List.{List, [], _∷_, _++_, map}
 use lib.Dec.{eqb}
 use lib.ListN.{length, getD}
@@ -8,6 +8,7 @@ use Rattle.base.specs.Checks.{elementRefusal}
 use Rattle.base.specs.Gather.{pick, digits}
 use Rattle.base.specs.Kinds.{nodesOf}
 use Rattle.base.specs.Outcome.{Outcome, orElse, settle}
+use Rattle.base.specs.Solids.{isSolid}
 use Rattle.base.specs.declared.refusals.Answer.{Answer}
 use Rattle.faces.specs.Faces.{joined}
 use Rattle.parts.specs.Tables.{Part, partsOf, quad4s}
@@ -39,7 +40,7 @@ rowsOf (p ∷ ps) = map (digits (nodesOf (p .kind))) (p .rows) ++ rowsOf ps
 
 -- TET4, WEDGE6 and HEX8 by their faces, corner 10, which none of them has, for the separator; others as they are
 unfoldable pub polyIds : ℕ → List ℕ → List ℕ
-polyIds kind ids = cond (eqb kind 11 || (eqb kind 13 || eqb kind 15)) (pick ids (joined 10 (rowsOf (polyParts kind)))) ids
+polyIds kind ids = cond (isSolid kind) (pick ids (joined 10 (rowsOf (polyParts kind)))) ids
 
 -- what refuses an input: 1 to 4, then 6 where there is no poly form
 unfoldable pub polyRefusal : ℕ → List ℕ → ℕ

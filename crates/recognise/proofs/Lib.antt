@@ -6,3 +6,4 @@ pub mod Nodes
 pub mod Found
 pub mod Never
 pub mod Claims
+mod Examples

@@ -8,4 +8,3 @@ pub mod Brick
 pub mod Recognise
 pub mod FromPoly
 pub mod Claims
-pub mod Examples

@@ -2,22 +2,24 @@
 use mathlib.Core.Path.{_≡_, refl, sym, _∙_, ap, ap₂}
 use mathlib.Core.Bool.{Bool, true, false, cond}
 use mathlib.Core.List.{List, [], _∷_}
-use Prim.Native.Nat.{ℕ, zero, suc, _+_, _*_, _/_, _%_, _≤_, _<_, min}
+use Prim.Native.Nat.{ℕ, zero, suc, _+_, _-_, _*_, _/_, _%_, _≤_, _<_, min}
 use native.Mathlib.Nat.{zero-mul, suc-mul, add-comm, mul-le-mul}
 use native.Mathlib.Omega.{arith}
 use lib.Dec.{eqb, leb, eqb→eq, leb→le}
-use lib.ListN.{length, getD, take, replicate, length-append}
+use lib.ListN.{length, getD, take, replicate, length-append, length-map}
 use borrow.Author.Tests.{le-leb, lt-leb}
-use Rattle.base.specs.Kinds.{nodesOf}
-use Rattle.base.specs.Gather.{pick, digits, corners}
+use Rattle.base.specs.Kinds.{nodesOf, separator}
+use Rattle.base.specs.Gather.{pick, digits, corners, undigit}
 use Rattle.base.specs.Outcome.{overwrite}
 use Rattle.base.proofs.Lists.{overwrite-front}
-use Rattle.base.proofs.Picks.{length-pick}
+use Rattle.base.proofs.Picks.{length-pick, within-default}
 use Rattle.simplexes.specs.Smallest.{smallestPos, firstDiagonal}
 use Rattle.simplexes.specs.Rows.{branch, vertexRows, segRows, triRows, quadRows, tetRows, wedgeQuads, wedgeFirst, wedgeSecond, hexRows}
+use Rattle.simplexes.specs.Strings.{caseStrings, wedgeStrings, quadStrings}
 use Rattle.simplexes.specs.declared.Split.{Split}
+use Rattle.simplexes.proofs.Strings.{quad-string, wedge-string, case-string, pick-take}
 use Rattle.simplexes.proofs.Laws.{below-at}
-use Rattle.simplexes.specs.Split.{Cut, Written, by, quad, cut, split, splitKind, splitCount, splitCell, simplexes, wedgeCut, hexCase, renumbered, hexCut}
+use Rattle.simplexes.specs.Split.{AtMost, Cut, Written, by, quad, cut, split, splitKind, splitCount, splitCell, simplexes, wedgeCut, hexCase, renumbered, hexCut}
 
 pub length-digits : (n row : ℕ) → length (digits n row) ≡ n
 length-digits zero row = refl
@@ -35,40 +37,56 @@ pub length-simplexes : (n : ℕ) (c : Cut) → length (simplexes n c) ≡ length
 unfolding simplexes
 length-simplexes n c = length-pick (c .ids) (corners n (c .rows)) ∙ length-corners n (c .rows)
 
--- the rows that are used of a row of 24
-pub used : (n : ℕ) (rows zeros : List ℕ) → take (length rows * n) (overwrite (corners n rows) zeros) ≡ corners n rows
-used n rows zeros =
-    ap (λ (k : ℕ). take k (overwrite (corners n rows) zeros)) (sym (length-corners n rows))
-    ∙ overwrite-front (corners n rows) zeros
-
-module _ (n : ℕ) (c : Cut) (row out : List ℕ) (e : row ≡ corners n (c .rows)) where
-  -- a row has room where its simplexes have
+module _ (n : ℕ) (c : Cut) (row out : List ℕ) (e : undigit row ≡ corners n (c .rows)) where
+  -- a row of digits has room where its simplexes have
   pub room : length (simplexes n c) ≤ length out → length row ≤ length out
   unfolding simplexes
-  room h = rw e (rw (length-pick (c .ids) (corners n (c .rows))) at h)
+  room h = rw (length-pick (c .ids) (corners n (c .rows)), ← e, length-map row (λ digit. digit - 48)) at h
 
-  pub gathered : (lent : List ℕ) (count : ℕ) → count ≡ length (c .rows) → lent ≡ overwrite (pick (c .ids) row) out
+  pub gathered : (lent : List ℕ) (count : ℕ) → count ≡ length (c .rows) → lent ≡ overwrite (pick (c .ids) (undigit row)) out
       → Written n c out count lent
   unfolding simplexes
   gathered lent count k w = record { counted = k; written = w ∙ ap (λ (r : List ℕ). overwrite (pick (c .ids) r) out) e }
 
+-- the ids of a quad, read one by one
+pub quad-read : (cell : List ℕ) (a b c d : ℕ) → a < length cell → b < length cell → c < length cell → d < length cell
+    → getD cell a 0 ∷ getD cell b 0 ∷ getD cell c 0 ∷ getD cell d 0 ∷ [] ≡ pick cell (a ∷ b ∷ c ∷ d ∷ [])
+unfolding pick
+quad-read cell a b c d h i j k =
+    rw (within-default cell a 0 separator h, within-default cell b 0 separator i, within-default cell c 0 separator j, within-default cell d 0 separator k)
+
+-- both of a wedge's tables have six places
+either-branch : (b : Bool) (place : ℕ)
+    → getD (cond b wedgeFirst wedgeSecond) (min place 5) [] ≡ branch (cond b wedgeFirst wedgeSecond) [] place
+either-branch true place = refl
+either-branch false place = refl
+
 -- the wedge's row, from the place of the smallest and the outcome of the search that is left
-pub wedge-row : (ids : List ℕ) (place : ℕ) (b : Bool) → place ≡ smallestPos ids
-    → firstDiagonal (quad ids (branch wedgeQuads 0 place)) ≡ b
-    → corners 4 (branch (cond b wedgeFirst wedgeSecond) [] place) ≡ corners 4 (wedgeCut ids .rows)
+pub wedge-row : (ids : List ℕ) (place : ℕ) (b : Bool) → place ≡ min (smallestPos ids) 5
+    → firstDiagonal (pick ids (undigit (getD quadStrings place []))) ≡ b
+    → undigit (getD wedgeStrings (place * 2 + cond b 0 1) []) ≡ corners 4 (wedgeCut ids .rows)
 wedge-row ids place b e d =
-    ap (λ (b : Bool). corners 4 (branch (cond b wedgeFirst wedgeSecond) [] place)) (sym d)
-    ∙ ap (λ (k : ℕ). corners 4 (branch (cond (firstDiagonal (quad ids (branch wedgeQuads 0 k))) wedgeFirst wedgeSecond) [] k)) e
+    let few : place < 6 = omega arith in
+    wedge-string place few b
+    ∙ ap (λ (b : Bool). corners 4 (getD (cond b wedgeFirst wedgeSecond) place []))
+    (sym d ∙ ap (λ (row : List ℕ). firstDiagonal (pick ids row)) (quad-string place few))
+    ∙ ap (λ (k : ℕ). corners 4 (getD (cond (firstDiagonal (quad ids (getD wedgeQuads k 0))) wedgeFirst wedgeSecond) k [])) e
+    ∙ ap (corners 4) (either-branch (firstDiagonal (quad ids (branch wedgeQuads 0 (smallestPos ids)))) (smallestPos ids))
 
 -- the brick's row, from its case and the number of tetrahedra of that case
-pub hex-row : (ids row : List ℕ) (case count : ℕ) → case ≡ hexCase (renumbered ids) → count ≡ length (branch hexRows [] case)
-    → row ≡ overwrite (corners 4 (branch hexRows [] case)) (replicate 24 0)
-    → (take (count * 4) row ≡ corners 4 (hexCut ids .rows)) × (count ≡ length (hexCut ids .rows))
-hex-row ids row case count e k r =
-    let rows : ℕ → List ℕ = branch hexRows [] in (
-      ap₂ (λ (k : ℕ) (r : List ℕ). take (k * 4) r) k r ∙ used 4 (rows case) (replicate 24 0) ∙ ap (λ (k : ℕ). corners 4 (rows k)) e,
-      k ∙ ap (λ (k : ℕ). length (rows k)) e,
-    )
+pub hex-row : (ids row : List ℕ) (case count : ℕ) → case ≡ hexCase (renumbered ids) → case < 8
+    → count ≡ length (branch hexRows [] case) → row ≡ getD caseStrings case []
+    → (take (count * 4) (undigit row) ≡ corners 4 (hexCut ids .rows)) × (count ≡ length (hexCut ids .rows))
+hex-row ids row case count e few k r = (
+  ap₂ (λ (k : ℕ) (r : List ℕ). take (k * 4) (undigit r)) k r ∙ case-string case few ∙ ap (λ (k : ℕ). corners 4 (branch hexRows [] k)) e,
+  k ∙ ap (λ (k : ℕ). length (branch hexRows [] k)) e,
+)
+
+-- the ids that a string's first corners pick are a cut's simplexes where the corners are its rows'
+pub picked : (c : Cut) (string : List ℕ) (count : ℕ) → take (count * 4) (undigit string) ≡ corners 4 (c .rows)
+    → take (count * 4) (pick (c .ids) (undigit string)) ≡ simplexes 4 c
+unfolding simplexes
+picked c string count e = pick-take (count * 4) (c .ids) (undigit string) ∙ ap (pick (c .ids)) e
 
 -- a wedge has three rows, a quad two, a segment one, and a brick at most six
 pub three-rows : (ids : List ℕ) → length (wedgeCut ids .rows) ≡ 3
@@ -115,6 +133,19 @@ rows-most kind ids =
     (either few (leb 2 kind) (omega (arith, one-row (eqb (smallestPos ids) 0)))
     (either few (leb 1 kind) (omega arith) (omega arith))))))))
 
+rows-few : (kind : ℕ) (ids : List ℕ) → kind < 15 → length (cut kind ids .rows) ≤ 3
+unfolding cut
+rows-few kind ids h =
+    let few : Cut → Type 0 = λ c. length (c .rows) ≤ 3 in
+    rw (lt-leb 15 kind h)
+    (either few (leb 17 kind) (omega arith)
+    (either few (leb 13 kind) (omega (arith, three-rows ids))
+    (either few (leb 11 kind) (omega arith)
+    (either few (leb 8 kind) (omega (arith, two-rows (firstDiagonal ids)))
+    (either few (leb 5 kind) (omega arith)
+    (either few (leb 2 kind) (omega (arith, one-row (eqb (smallestPos ids) 0)))
+    (either few (leb 1 kind) (omega arith) (omega arith))))))))
+
 nodes-most : (kind : ℕ) → nodesOf (splitKind kind) ≤ 4
 unfolding splitKind nodesOf
 nodes-most kind =
@@ -135,6 +166,11 @@ pub split-most : (kind : ℕ) (ids : List ℕ) → length (split kind ids) ≤ 2
 unfolding splitCount
 split-most kind ids =
     rw (split-length kind ids) (mul-le-mul (rows-most kind ids) (nodes-most kind))
+
+-- or 12, of any kind but the bricks'
+pub split-few : (kind : ℕ) → kind < 15 → AtMost kind 12
+unfolding splitCount
+split-few kind h ids = rw (split-length kind ids) (mul-le-mul (rows-few kind ids h) (nodes-most kind))
 
 -- a split by value: its count and kind say how many of its ids are the simplexes'
 module _ (kind : ℕ) (ids : List ℕ) (s : Split) (nodes : ℕ) (e : s ≡ splitCell kind ids) (m : nodes ≡ nodesOf (s .kind)) where
@@ -162,11 +198,11 @@ module _ (kind : ℕ) (ids : List ℕ) (n : ℕ) (c : Cut) (is : IsCut kind ids 
 
 -- a kind whose ids are gathered by a row as they stand
 module _ (kind : ℕ) (ids : List ℕ) (n : ℕ) (rows : List ℕ) (is : IsCut kind ids n (by ids rows)) (row out : List ℕ)
-    (e : row ≡ corners n rows) where
+    (e : undigit row ≡ corners n rows) where
   pub row-room : length (split kind ids) ≤ length out → length row ≤ length out
   row-room h = room n (by ids rows) row out e (rw (split-is kind ids n (by ids rows) is) at h)
 
-  pub row-written : (lent : List ℕ) (count : ℕ) → count ≡ length rows → lent ≡ overwrite (pick ids row) out
+  pub row-written : (lent : List ℕ) (count : ℕ) → count ≡ length rows → lent ≡ overwrite (pick ids (undigit row)) out
       → Written (nodesOf (splitKind kind)) (cut kind ids) out count lent
   row-written lent count k w =
       written-is kind ids n (by ids rows) is out lent count (gathered n (by ids rows) row out e lent count k w)

@@ -1,14 +1,16 @@
 -- Laws of tests that the checker computes, and of the tables of rows.
-use mathlib.Core.Path.{_≡_, refl, sym, ap, subst}
+use mathlib.Core.Path.{_≡_, refl, sym, _∙_, ap, ap₂, subst}
 use mathlib.Core.Bool.{Bool, true, false, _&&_, _||_}
-use mathlib.Core.List.{List, [], _∷_, map, append-nil}
-use Prim.Native.Nat.{ℕ, zero, suc, _-_, _≤_, _<_, min}
+use mathlib.Core.List.{List, [], _∷_, _++_, map, append-nil}
+use Prim.Native.Nat.{ℕ, zero, suc, _+_, _-_, _≤_, _<_, min}
 use native.Mathlib.Nat.{le-of-suc-le-suc, not-suc-le-zero}
 use native.Mathlib.Omega.{arith}
 use lib.Dec.{T, eqb, eqb→eq}
-use lib.ListN.{length, getD, drop-of-length-le}
+use lib.ListN.{length, getD, take, drop, set, length-append, length-drop, drop-of-length-le}
+use lib.Seq.{length-take-le, getD-take}
 use borrow.Author.Tests.{eq-eqb, eqb-true, eqb-false}
 use Rattle.base.specs.Outcome.{overwrite}
+use Rattle.base.proofs.Lists.{front-more}
 use Rattle.simplexes.specs.Rows.{branch, hexRows}
 
 pub and-left : (a b : Bool) → T (a && b) → T a
@@ -45,6 +47,20 @@ pub all-at : (test : ℕ → Bool) (xs : List ℕ) → T (all test xs) → (k : 
 all-at test [] h k l = absurd (not-suc-le-zero l)
 all-at test (x ∷ xs) h zero l = and-left (test x) (all test xs) h
 all-at test (x ∷ xs) h (suc k) l = all-at test xs (and-right (test x) (all test xs) h) k (le-of-suc-le-suc l)
+
+-- two lists are equal, as a test
+abbrev pub eqs : List ℕ → List ℕ → Bool
+eqs [] [] = true
+eqs [] (y ∷ ys) = false
+eqs (x ∷ xs) [] = false
+eqs (x ∷ xs) (y ∷ ys) = eqb x y && eqs xs ys
+
+pub eqs-eq : (xs ys : List ℕ) → T (eqs xs ys) → xs ≡ ys
+eqs-eq [] [] h = refl
+eqs-eq [] (y ∷ ys) h = absurd h
+eqs-eq (x ∷ xs) [] h = absurd h
+eqs-eq (x ∷ xs) (y ∷ ys) h =
+    ap₂ (λ (x : ℕ) (xs : List ℕ). x ∷ xs) (eqb→eq x y (and-left (eqb x y) (eqs xs ys) h)) (eqs-eq xs ys (and-right (eqb x y) (eqs xs ys) h))
 
 abbrev pub mem : ℕ → List ℕ → Bool
 mem x [] = false
@@ -106,3 +122,15 @@ four-are (a ∷ b ∷ []) h = absurd (omega arith)
 four-are (a ∷ b ∷ c ∷ []) h = absurd (omega arith)
 four-are (a ∷ b ∷ c ∷ d ∷ []) h = refl
 four-are (a ∷ b ∷ c ∷ d ∷ e ∷ xs) h = absurd (omega arith)
+
+-- a turn of a loop that writes the first n of a list from the left, an entry at a time
+module _ (n : ℕ) (xs out : List ℕ) where
+  pub front-next : (k j : ℕ) (before after : List ℕ) → k < n → k < length (take n xs) → k < length out → j ≡ k + 1
+      → before ≡ take k (take n xs) ++ drop k out → after ≡ set before k (getD xs k 0)
+      → after ≡ take j (take n xs) ++ drop j out
+  front-next k j before after h i l e b a =
+      a ∙ ap₂ (λ (ys : List ℕ) (x : ℕ). set ys k x) b (sym (getD-take n xs k 0 h))
+      ∙ front-more (take n xs) out k i l ∙ ap (λ (j : ℕ). take j (take n xs) ++ drop j out) (sym e)
+
+pub front-length : (xs out : List ℕ) (k : ℕ) → k ≤ length xs → k ≤ length out → length (take k xs ++ drop k out) ≡ length out
+front-length xs out k h l = simp (length-append, length-take-le k xs h, length-drop) (omega arith)

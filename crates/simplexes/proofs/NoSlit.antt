@@ -1,22 +1,22 @@
 -- No slit: each kind passes its test, and the sum over a list is the sum of its cells'.
-use mathlib.Core.Path.{_≡_, refl, _∙_, ap, ap₂}
+use mathlib.Core.Path.{_≡_, refl, sym, _∙_, ap}
 use mathlib.Core.Bool.{Bool, true, false, cond, _||_, false≢true}
 use mathlib.Core.List.{List, [], _∷_, _++_, map}
 use mathlib.Core.Logic.{inl, inr}
-use Prim.Native.Nat.{ℕ, _+_, _≤_, _<_, min}
+use Prim.Native.Nat.{ℕ, _+_, _*_, _≤_, min}
 use native.Mathlib.Omega.{arith}
-use lib.Dec.{T, eqb, ltb, ltb→lt}
+use lib.Dec.{T, eqb}
 use lib.ListN.{getD, length}
 use borrow.Author.Tests.{eqb-true, eqb-false}
-use Rattle.base.specs.Kinds.{nodesOf, separator}
+use Rattle.base.specs.Kinds.{nodesOf}
 use Rattle.base.specs.Gather.{pick, digits, corners}
-use Rattle.base.proofs.Picks.{length-pick, pick-at, within-default}
 use Rattle.simplexes.specs.Smallest.{smallestPos, firstDiagonal}
-use Rattle.simplexes.specs.Rows.{branch, tetRows, wedgeQuads, wedgeFirst, wedgeSecond, renumberings, hexRows, caseOf}
-use Rattle.simplexes.specs.Split.{cut, simplexes, split, splitKind, renumbered, hexCase}
+use Rattle.simplexes.specs.Rows.{branch, tetRows, wedgeQuads, wedgeFirst, wedgeSecond, renumberings, caseOf}
+use Rattle.simplexes.specs.Split.{cut, simplexes, split, splitKind}
+use Rattle.simplexes.specs.Table.{hexTable, used, hexPlace}
 use Rattle.simplexes.specs.Triangle.{Tri, flip, count, total, tetTris}
 use Rattle.simplexes.specs.Demand3.{Cell, Proper, AllProper, Distinct, OnceOrTwice, tetFaces, wedgeFaces, hexFaces, outer, inside, outside, splits, outsides}
-use Rattle.simplexes.proofs.Laws.{and-left, and-right, below-at, all}
+use Rattle.simplexes.proofs.Table.{pick-pick, one-row-two-steps}
 use Rattle.simplexes.proofs.KindTest.{fours}
 use Rattle.simplexes.proofs.Winding.{count-append}
 use Rattle.simplexes.proofs.OneCell.{Sound, cell, splitBy, sub-eq}
@@ -39,41 +39,22 @@ wedge-whole ids l d =
     (λ m bs. corners 4 (branch (cond (getD bs 0 true) wedgeFirst wedgeSecond) [] m)) tt (omega arith) ids l d in
     record { sound = w .0; full = w .1 }
 
--- the brick's quads and rows in the corners that it came with
+-- the brick's quads in the corners that it came with, and its rows of the table
 abbrev hexQuads : ℕ → List (List ℕ)
 hexQuads m = map (λ quad. pick (digits 8 (branch renumberings 0 m)) (digits 4 quad)) (4567 ∷ 1265 ∷ 2376 ∷ [])
 
 abbrev hexRow : ℕ → List Bool → List ℕ
-hexRow m bs =
-    pick (digits 8 (branch renumberings 0 m))
-    (corners 4 (branch hexRows [] (caseOf (getD bs 0 true) (getD bs 1 true) (getD bs 2 true))))
-
--- the ids at corners that are read off a renumbering
-pick-pick : (ids ps qs : List ℕ) → T (all (λ q. ltb q (length ps)) qs) → pick (pick ids ps) qs ≡ pick ids (pick ps qs)
-unfolding pick
-pick-pick ids ps [] h = refl
-pick-pick ids ps (q ∷ qs) h =
-    let in-ps : ℕ → Bool = λ q. ltb q (length ps) in
-    let l = ltb→lt q (length ps) (and-left (in-ps q) (all in-ps qs) h) in
-    let first : getD (pick ids ps) q separator ≡ getD ids (getD ps q separator) separator =
-    within-default (pick ids ps) q separator 0 (rw length-pick l) ∙ pick-at ids ps q l
-    ∙ ap (λ (corner : ℕ). getD ids corner separator) (within-default ps q 0 separator l) in
-    ap₂ (λ (x : ℕ) (xs : List ℕ). x ∷ xs) first (pick-pick ids ps qs (and-right (in-ps q) (all in-ps qs) h))
-
-rows-in : (case : ℕ) → T (all (λ q. ltb q 8) (corners 4 (branch hexRows [] case)))
-rows-in case =
-    let h : min case 7 < 8 = omega arith in
-    below-at 8 (λ k. all (λ q. ltb q 8) (corners 4 (getD hexRows k []))) tt (min case 7) h
+hexRow m bs = corners 4 (used (getD hexTable (min m 7 * 8 + caseOf (getD bs 0 true) (getD bs 1 true) (getD bs 2 true)) []))
 
 ap₃ : (f : Bool → Bool → Bool → List ℕ) {a x b y c z : Bool} → a ≡ x → b ≡ y → c ≡ z → f a b c ≡ f x y z
 ap₃ f p q r = λ i. f (p i) (q i) (r i)
 
--- in two steps, or by one row of corners
-two-steps : (ids : List ℕ) → split 15 ids ≡ splitBy hexQuads hexRow ids
-unfolding split cut splitKind simplexes nodesOf
-two-steps ids =
-    pick-pick ids p (corners 4 (branch hexRows [] (hexCase (renumbered ids)))) (rows-in (hexCase (renumbered ids)))
-    ∙ ap₃ (λ a b c. pick ids (pick p (corners 4 (branch hexRows [] (caseOf a b c)))))
+-- a brick's split is that by its row of the table
+by-table : (ids : List ℕ) → split 15 ids ≡ splitBy hexQuads hexRow ids
+unfolding split cut splitKind simplexes nodesOf hexPlace
+by-table ids =
+    sym (one-row-two-steps ids)
+    ∙ ap₃ (λ a b c. pick ids (corners 4 (used (getD hexTable (min (smallestPos ids) 7 * 8 + caseOf a b c) []))))
     (ap firstDiagonal (pick-pick ids p (digits 4 4567) tt))
     (ap firstDiagonal (pick-pick ids p (digits 4 1265) tt))
     (ap firstDiagonal (pick-pick ids p (digits 4 2376) tt))
@@ -81,11 +62,12 @@ two-steps ids =
     p : List ℕ
     p = digits 8 (branch renumberings 0 (smallestPos ids))
 
+-- the inner triangles cancel in every row: one test over the whole table, carried to each brick
 hex-whole : (ids : List ℕ) → length ids ≡ 8 → Distinct ids → Whole (split 15 ids) (outer hexFaces ids)
 unfolding pick
 hex-whole ids l d =
     let w = cell 8 hexFaces hexQuads hexRow tt (omega arith) ids l d in
-    rw (two-steps ids) (record { sound = w .0; full = w .1 })
+    rw (by-table ids) (record { sound = w .0; full = w .1 })
 
 -- the kind decides which
 pub cell-whole : (c : Cell) → Proper c → Whole (split (c .kind) (c .ids)) (outside c)

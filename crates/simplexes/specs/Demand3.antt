@@ -1,14 +1,14 @@
 -- No slit (the order's demand 3): what the tetrahedra of cells have in common with the cells' outer faces.
 use Prim.Native.Nat.{ℕ, _≤_, _<_}
 use mathlib.Core.Path.{_≡_}
-use mathlib.Core.Bool.{Bool, true, cond, _||_}
+use mathlib.Core.Bool.{true, cond}
 use mathlib.Core.List.{List, [], _∷_, _++_, map}
 use mathlib.Core.Logic.{_⊎_}
 use lib.Dec.{eqb}
 use lib.ListN.{length, getD}
 use Rattle.base.specs.Kinds.{nodesOf}
 use Rattle.base.specs.Gather.{pick, digits}
-use Rattle.base.specs.Solids.{tet4Tris, wedge6Tris, wedge6Quads, hex8Quads}
+use Rattle.base.specs.Solids.{isSolid, tet4Tris, wedge6Tris, wedge6Quads, hex8Quads}
 use Rattle.simplexes.specs.Split.{split}
 use Rattle.simplexes.specs.Triangle.{Tri, flip, count, total, tetTris, faceTris}
 
@@ -21,10 +21,6 @@ wedgeFaces = map (digits 3) wedge6Tris ++ map (digits 4) wedge6Quads
 
 abbrev pub hexFaces : List (List ℕ)
 hexFaces = map (digits 4) hex8Quads
-
--- TET4, WEDGE6 and HEX8
-abbrev pub isSolid : ℕ → Bool
-isSolid kind = eqb kind 11 || (eqb kind 13 || eqb kind 15)
 
 abbrev pub facesOf : ℕ → List (List ℕ)
 facesOf kind = cond (eqb kind 11) tetFaces (cond (eqb kind 13) wedgeFaces (cond (eqb kind 15) hexFaces []))

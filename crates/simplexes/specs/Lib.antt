@@ -3,4 +3,5 @@ pub mod Rows
 pub mod Split
 pub mod Triangle
 pub mod Demand3
-pub mod Examples
+pub mod Table
+pub mod Strings

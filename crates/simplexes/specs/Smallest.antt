@@ -2,7 +2,9 @@
 use Prim.Native.Nat.{ℕ, suc}
 use mathlib.Core.Bool.{Bool, true, cond, not, _&&_, _||_}
 use mathlib.Core.List.{List, [], _∷_}
-use lib.Dec.{eqb, leb}
+use lib.Dec.{eqb, leb, ltb}
+use lib.ListN.{getD}
+use Rattle.simplexes.specs.declared.smallest.Least.{Least}
 
 -- no id of the list is below x
 abbrev pub leAll : ℕ → List ℕ → Bool
@@ -13,6 +15,13 @@ leAll x (y ∷ ys) = leb x y && leAll x ys
 abbrev pub smallestPos : List ℕ → ℕ
 smallestPos [] = 0
 smallestPos (x ∷ xs) = cond (leAll x xs) 0 (suc (smallestPos xs))
+
+-- an id with its place, and the lesser of two, the one that stands first on a tie
+abbrev pub entryOf : List ℕ → ℕ → Least
+entryOf ids place = record { place = place; id = getD ids place 0 }
+
+unfoldable pub lesserOf : Least → Least → Least
+lesserOf a b = cond (ltb (b .id) (a .id)) b a
 
 -- a place on a quad's first diagonal, from 0 to 2, and not on its second, from 1 to 3; a place past the corners counts
 -- as on the first

@@ -1,5 +1,5 @@
 -- How one cell is cut into simplexes (document 01, 'To simplexes').
-use Prim.Native.Nat.{ℕ}
+use Prim.Native.Nat.{ℕ, _≤_}
 use mathlib.Core.Path.{_≡_}
 use mathlib.Core.Bool.{cond}
 use mathlib.Core.List.{List, []}
@@ -71,6 +71,10 @@ simplexes n c = pick (c .ids) (corners n (c .rows))
 
 unfoldable pub split : ℕ → List ℕ → List ℕ
 split kind ids = simplexes (nodesOf (splitKind kind)) (cut kind ids)
+
+-- the simplexes of every list of ids take at most so many entries
+abbrev pub AtMost : ℕ → ℕ → Type 0
+AtMost kind most = (ids : List ℕ) → length (split kind ids) ≤ most
 
 -- how many simplexes there are
 unfoldable pub splitCount : ℕ → List ℕ → ℕ

@@ -1,7 +1,7 @@
 // The split of one cell into simplexes.
 ghost use mathlib.Core.Path.{_≡_};
 ghost use Rattle.base.specs.Outcome.{Permits};
-ghost use Rattle.simplexes.specs.Split.{splitCell, splitKind, splitRefusal, toSimplexes};
+ghost use Rattle.simplexes.specs.Split.{AtMost, splitCell, splitKind, splitRefusal, toSimplexes};
 use base::checks::element_refusal;
 use base::kinds::Kind;
 use base::kinds::node_count;
@@ -11,8 +11,9 @@ use base::refusals::Refusal;
 use cells::write_cell;
 
 pub mod cells;
-mod rows;
 mod smallest;
+pub mod solids;
+pub mod tables;
 
 // The simplexes of one cell: their kind, their number, and their ids from the front, 0 in the places
 // that are left. The kind is 0 where there is no rule.
@@ -31,6 +32,10 @@ pub fn to_simplexes(kind: u64, ids: &[u64], out: &mut [u64]) -> Answer
     if refusal != 0 {
         return Answer::refused(refusal);
     }
+    if most_ids(kind) <= out.len() {
+        let count = write_cell(kind, ids, out);
+        return Answer::given(simplex_kind(kind), count);
+    }
     let split = split_cell(kind, ids);
     let simplexes = split.ids;
     let n = split.count as usize * node_count(split.kind);
@@ -39,6 +44,17 @@ pub fn to_simplexes(kind: u64, ids: &[u64], out: &mut [u64]) -> Answer
     }
     copy(&simplexes[..n], out);
     Answer::given(split.kind, split.count)
+}
+
+// As many ids as the simplexes of one cell take at most. Where they find room they are written in place;
+// else the split is made aside, so that a brick of five is told from one of six before anything is written.
+fn most_ids(kind: u64) -> usize
+    ensures { λ r. ⌜ AtMost kind r ⌝ }
+{
+    if Kind::HEX8 <= kind {
+        return 24;
+    }
+    12
 }
 
 // The split of one cell by value. An id that the kind wants and the list lacks is the separator.

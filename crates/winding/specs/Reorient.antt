@@ -8,6 +8,7 @@ use lib.Ieee.{Float}
 use Rattle.base.specs.Kinds.{separator}
 use Rattle.base.specs.Checks.{elementRefusal}
 use Rattle.base.specs.Outcome.{Outcome, orElse, settle}
+use Rattle.base.specs.Solids.{isSolid}
 use Rattle.base.specs.declared.refusals.Answer.{Answer}
 use Rattle.faces.specs.Faces.{faces, joined}
 use Rattle.winding.specs.Points.{pointsFit, pointCount, lacksPoint}
@@ -24,7 +25,7 @@ turnsInSpace kind dimension = eqb dimension 3 && eqb kind 19
 
 -- TET4, WEDGE6 and HEX8 have no rule in space
 unfoldable pub hasNoRule : ℕ → ℕ → Bool
-hasNoRule kind dimension = eqb dimension 3 && (eqb kind 11 || eqb kind 13 || eqb kind 15)
+hasNoRule kind dimension = eqb dimension 3 && isSolid kind
 
 -- what is wound needs the points of its ids; what is copied needs none
 unfoldable pub wantsPoint : ℕ → List ℕ → ℕ → ℕ → Bool

@@ -70,7 +70,8 @@ fn reorient_refusal(kind: u64, ids: &[u64], dimension: u64, n: usize) -> u64
 fn has_no_rule(kind: u64, dimension: u64) -> bool
     ensures { λ r. ⌜ r ≡ hasNoRule kind dimension ⌝ }
 {
-    (dimension == IN_SPACE) & ((kind == Kind::TET4) | (kind == Kind::WEDGE6) | (kind == Kind::HEX8))
+    (dimension == IN_SPACE)
+        & ((kind == Kind::TET4) | ((kind == Kind::WEDGE6) | (kind == Kind::HEX8)))
 }
 
 // Whether the element is wound and one of its ids has no point.

@@ -4,16 +4,13 @@
 //!     compare --fault        puts faults into the library's answers, and finds each
 //!     compare --vectors FILE writes a sample of the expected answers for the program `replay`
 
-mod case;
 mod cases;
 mod coordinates;
-mod expected;
-mod ours;
 mod polyhedra;
-mod random;
 mod vectors;
 
 use case::{Numbers, Operation, Outcome, lent};
+use compare::{case, expected, ours, random};
 use expected::Source;
 use std::collections::BTreeMap;
 use std::process::ExitCode;

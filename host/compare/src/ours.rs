@@ -61,16 +61,21 @@ unsafe extern "C" {
 pub fn call(case: &Case, n_out: usize, n_ends: usize) -> Outcome {
     let mut out = lent(n_out);
     let mut ends = lent(n_ends);
-    let numbers = match case.operation {
-        Operation::Subentities | Operation::SubentitiesOf => parts(case, &mut out, &mut ends),
-        Operation::ToPoly => one(ts_to_poly, case, &mut out),
-        Operation::FromPoly => one(ts_from_poly, case, &mut out),
-        Operation::ToSimplexes => one(ts_to_simplexes, case, &mut out),
-        Operation::Reorient => reorient(case, &mut out),
-        Operation::SplitBlock => one(ts_split_block, case, &mut out),
-        Operation::SplitRecord => record(case, &mut out),
-    };
+    let numbers = call_over(case, &mut out, &mut ends);
     Outcome { numbers, out, ends }
+}
+
+/// The call over the caller's outputs.
+pub fn call_over(case: &Case, out: &mut [u64], ends: &mut [u64]) -> Numbers {
+    match case.operation {
+        Operation::Subentities | Operation::SubentitiesOf => parts(case, out, ends),
+        Operation::ToPoly => one(ts_to_poly, case, out),
+        Operation::FromPoly => one(ts_from_poly, case, out),
+        Operation::ToSimplexes => one(ts_to_simplexes, case, out),
+        Operation::Reorient => reorient(case, out),
+        Operation::SplitBlock => one(ts_split_block, case, out),
+        Operation::SplitRecord => record(case, out),
+    }
 }
 
 fn parts(case: &Case, out: &mut [u64], ends: &mut [u64]) -> Numbers {

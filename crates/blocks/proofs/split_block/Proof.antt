@@ -49,7 +49,7 @@ gives : tie.Need-returns-2
 unfolding splitBlock
 gives c =
     let k = c .before .before .before .before .before .before .before in
-    let w = rw (k .node-count .ensures) at (c .before .before .before .write-cells .ensures) in
+    let w = rw (k .node-count .ensures) at (c .before .before .before .write-block .ensures) in
     rw (settle-gives _ _ _ _ _ (accepted k) (fits (c .before .before .before .before .before)))
     (record { answered = c .given .ensures ∙ ap (given 11) (w .counted); left = w .written })
 
@@ -75,7 +75,7 @@ split-block-spec =
     (λ c κs. rw (c .node-count .ensures) (block c .fills, block c .left, block c .few))
     (λ c κs.
     let k = c .before .before .before in
-    rw (k .node-count .ensures) ((block k .fills, block k .left), fits (c .before)))
+    rw (k .node-count .ensures) ((block k .fills, block k .left, block k .few), fits (c .before)))
     (λ c κs. search needs)
     (λ c. search needs)
     gives

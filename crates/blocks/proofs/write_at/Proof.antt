@@ -1,19 +1,15 @@
 -- `write_at` meets its contract: the cell's answer stands in the part that is lent on, and the front is kept.
 use borrow.Author.Needs.{needs}
-use mathlib.Core.Path.{_≡_, _∙_, ap}
-use mathlib.Core.List.{List}
-use Prim.Native.Nat.{ℕ, _+_, _*_, _-_}
+use mathlib.Core.Path.{_∙_, ap}
+use Prim.Native.Nat.{_*_}
 use native.Mathlib.Omega.{arith}
 use lib.ListN.{take, drop, length-drop}
 use Rattle.base.specs.Outcome.{overwrite}
 use Rattle.base.proofs.Lists.{rest-whole, rest-back}
 use Rattle.simplexes.specs.Split.{split, splitCount}
+use Rattle.blocks.proofs.Parts.{part}
 use Rattle.blocks.proofs.write_at.Statement.{statement}
 use Rattle.blocks.proofs.write_at.Tie as tie
-
--- the part that is lent on is the cell
-part : (from n : ℕ) (ids : List ℕ) → take (from + n - from) (drop from ids) ≡ take n (drop from ids)
-part from n ids = let e : from + n - from ≡ n = omega arith in rw e
 
 write-cell-requires : tie.Need-write-cell-requires
 write-cell-requires c κs =

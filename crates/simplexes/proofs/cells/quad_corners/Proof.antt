@@ -9,6 +9,6 @@ quad-corners-spec =
     tie.close
     (tie.spec
     (λ c κs. search needs)
-    (λ c. simp (← c .before .smallest .ensures, c .match .keys1))
-    (λ c. simp (← c .before .smallest .ensures, c .match .keys2))
-    (λ c. simp (← c .before .smallest .ensures, ne-eqb _ 1 (c .match .rest .0 .1), ne-eqb _ 3 (c .match .rest .1))))
+    (λ c. simp (← c .before .before .before .smallest .ensures, c .before .before .match .keys1))
+    (λ c. simp (← c .before .before .before .smallest .ensures, c .before .before .match .keys2))
+    (λ c. simp (← c .before .before .before .smallest .ensures, ne-eqb _ 1 (c .before .before .match .rest .0 .1), ne-eqb _ 3 (c .before .before .match .rest .1))))

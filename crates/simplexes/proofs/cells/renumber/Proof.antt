@@ -1,28 +1,27 @@
--- `cells::renumber` meets its contract: the eight ids that are gathered fill the cell.
+-- `cells::renumber` meets its contract: a brick of eight ids by the search of eight, any other as it comes.
 use borrow.Author.Needs.{needs}
-use mathlib.Core.Path.{_≡_, _∙_, ap}
-use Prim.Native.Nat.{ℕ}
-use lib.ListN.{length}
-use Rattle.base.specs.Gather.{pick, digits}
-use Rattle.base.proofs.Picks.{length-pick}
-use Rattle.simplexes.specs.Rows.{branch, renumberings}
-use Rattle.simplexes.proofs.Laws.{fills}
+use mathlib.Core.Path.{_≡_, _∙_}
+use Rattle.simplexes.proofs.Strings.{turn-within}
+use Rattle.simplexes.proofs.Table.{turned}
 use Rattle.simplexes.proofs.cells.renumber.Statement.{statement}
 use Rattle.simplexes.proofs.cells.renumber.Tie as tie
-
-returns : tie.Need-returns
-returns c =
-    let r = c .before .before .before .before in
-    let corners = r .renumbering .result in
-    let ids = r .before .before .before .args .ids .now in
-    let eight : length corners ≡ 8 = search needs in
-    c .before .gather .ensures
-    ∙ fills (pick ids corners) _ (length-pick ids corners ∙ eight)
-    ∙ ap (pick ids) (r .renumbering .ensures ∙ ap (λ (k : ℕ). digits 8 (branch renumberings 0 k)) (r .before .smallest .ensures))
 
 pub renumber-spec : {M : Type 1} → statement M
 renumber-spec =
     tie.close
     (tie.spec
-    (λ c κs. search needs) (λ c κs. search needs) (λ c. search needs) (λ c. search needs) (λ c κs. search needs)
-    returns)
+    (λ c κs. search needs)
+    (λ c κs. c .before .if1 .taken)
+    (λ c. search needs)
+    (λ c. search needs)
+    (λ c κs.
+    let s = c .before in
+    rw (s .before .renumberings .ensures, s .before .before .if1 .taken) (turn-within (s .smallest-of-eight .result) (s .smallest-of-eight .ensures .1)))
+    (λ c.
+    let s = c .before .before in
+    let r = s .before in
+    let place = s .smallest-of-eight .ensures in
+    c .renumber .ensures
+    ∙ turned (r .before .before .before .args .ids .now) (r .renumberings .result) (s .smallest-of-eight .result) (r .renumberings .ensures) (place .0) (place .1))
+    (λ c κs. search needs)
+    (λ c. c .renumber-any .ensures))

@@ -9,5 +9,5 @@ seg-corners-spec =
     tie.close
     (tie.spec
     (λ c κs. search needs)
-    (λ c. simp (← c .before .smallest .ensures, eq-eqb _ _ (c .if1 .taken)))
-    (λ c. simp (← c .before .smallest .ensures, ne-eqb _ _ (c .if1 .left))))
+    (λ c. simp (← c .before .before .before .smallest .ensures, eq-eqb _ _ (c .before .before .if1 .taken)))
+    (λ c. simp (← c .before .before .before .smallest .ensures, ne-eqb _ _ (c .before .before .if1 .left))))

@@ -2,8 +2,8 @@
 use borrow.Author.Needs.{needs}
 use mathlib.Core.Path.{_≡_, _∙_, ap}
 use lib.ListN.{length}
-use Rattle.base.specs.Gather.{pick}
-use Rattle.base.proofs.Picks.{length-pick}
+use Rattle.base.specs.Gather.{pick, undigit}
+use Rattle.base.proofs.Picks.{length-undigit}
 use Rattle.simplexes.specs.Smallest.{firstDiagonal}
 use Rattle.simplexes.proofs.Laws.{fills, four-are}
 use Rattle.simplexes.proofs.smallest.first_diagonal.Statement.{statement}
@@ -14,9 +14,9 @@ returns c =
     let a = c .before .before .before .before .before .before .args in
     let ids = a .ids .now in
     let four : length (a .t2) ≡ 4 = search needs in
-    let long : length (pick ids (a .t2)) ≡ 4 = length-pick ids (a .t2) ∙ four in
-    let e = c .before .before .gather .ensures ∙ fills (pick ids (a .t2)) _ long in
-    rw e at (c .on-first .ensures) ∙ ap firstDiagonal (four-are (pick ids (a .t2)) long)
+    let long : length (pick ids (undigit (a .t2))) ≡ 4 = length-undigit ids (a .t2) ∙ four in
+    let e = c .before .before .gather-digits .ensures ∙ fills (pick ids (undigit (a .t2))) _ long in
+    rw e at (c .on-first .ensures) ∙ ap firstDiagonal (four-are (pick ids (undigit (a .t2))) long)
 
 pub first-diagonal-spec : {M : Type 1} → statement M
 first-diagonal-spec =
