@@ -34,9 +34,6 @@ examples =
     ∷ ex 19 (many 4097) 2 0
     ∷ ex 11 (many 5000) 2 0
     ∷ ex 18 (separator ∷ many 4096) 2 4
-    -- and a block at most 65,536 ids
-    ∷ ex 11 (many 65536) 2 0
-    ∷ ex 11 (many 65537) 2 2
     -- 3 before 4
     ∷ ex 1 [] 3 0
     ∷ ex 1 (5 ∷ []) 0 0

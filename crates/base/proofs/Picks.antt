@@ -1,15 +1,11 @@
 -- Laws of ids picked by a row of corners.
 use mathlib.Core.Path.{_≡_, refl, _∙_}
-use mathlib.Core.Bool.{true, _&&_}
-use Prim.Native.Nat.{ℕ, zero, suc, _-_, _<_, _≤_}
+use Prim.Native.Nat.{ℕ, zero, suc, _-_, _<_}
 use native.Mathlib.Nat.{le-of-suc-le-suc, not-suc-le-zero}
 use mathlib.Core.List.{List, [], _∷_, _++_}
-use lib.Dec.{leb, ltb}
 use lib.ListN.{length, getD, length-map}
-use borrow.Author.Tests.{ne-eqb, leb-true, ltb-true}
-use Rattle.base.specs.Gather.{pick, undigit, fit, fits}
+use Rattle.base.specs.Gather.{pick, undigit}
 use Rattle.base.specs.Kinds.{separator}
-use Rattle.base.proofs.Tests.{and-true}
 
 pub length-pick : (ids row : List ℕ) → length (pick ids row) ≡ length row
 unfolding pick
@@ -43,15 +39,3 @@ pub within-default : (ids : List ℕ) (i d e : ℕ) → i < length ids → getD 
 within-default [] i d e h = absurd (not-suc-le-zero h)
 within-default (x ∷ ids) zero d e h = refl
 within-default (x ∷ ids) (suc i) d e h = within-default ids i d e (le-of-suc-le-suc h)
-
--- each digit of a row that fits does
-pub fits-at : (n : ℕ) (row : List ℕ) (i : ℕ) → fits n row ≡ true → i < length row → fit n (getD row i 0) ≡ true
-fits-at n [] i h l = absurd (not-suc-le-zero l)
-fits-at n (d ∷ row) zero h l = and-true (fit n d) (fits n row) h .0
-fits-at n (d ∷ row) (suc i) h l = fits-at n row i (and-true (fit n d) (fits n row) h .1) (le-of-suc-le-suc l)
-
--- a digit that fits and is not the colon names a corner that is there
-pub fit-corner : (n digit : ℕ) → fit n digit ≡ true → (digit ≡ 58 → ⊥) → (48 ≤ digit) × (digit - 48 < n)
-fit-corner n digit h ne =
-    let t = and-true (leb 48 digit) (ltb (digit - 48) n) (simp (ne-eqb digit 58 ne) at h) in
-    (leb-true 48 digit (t .0), ltb-true (digit - 48) n (t .1))

@@ -1,8 +1,6 @@
 -- Ids chosen by a row of corner numbers, and how a row is written as digits.
 use Prim.Native.Nat.{ℕ, zero, suc, _-_, _/_, _%_}
-use mathlib.Core.Bool.{Bool, true, cond, _&&_}
 use mathlib.Core.List.{List, [], _∷_, _++_, map}
-use lib.Dec.{eqb, leb, ltb}
 use lib.ListN.{getD}
 use Rattle.base.specs.Kinds.{separator}
 
@@ -13,14 +11,6 @@ pick ids row = map (λ corner. getD ids corner separator) row
 -- the corners of a row written in ASCII digits, 48 for 0; the colon, which follows 9, is corner 10
 abbrev pub undigit : List ℕ → List ℕ
 undigit row = map (λ digit. digit - 48) row
-
--- a digit for one of n corners, or the colon where corner 10 is past the last
-abbrev pub fit : ℕ → ℕ → Bool
-fit n digit = cond (eqb digit 58) (leb n 10) (leb 48 digit && ltb (digit - 48) n)
-
-abbrev pub fits : ℕ → List ℕ → Bool
-fits n [] = true
-fits n (digit ∷ row) = fit n digit && fits n row
 
 -- the last n digits of a number, in order
 abbrev pub digits : ℕ → ℕ → List ℕ

@@ -1,9 +1,8 @@
 // The writers over the front of a lent slice; what lies behind the answer stays.
 ghost use mathlib.Core.Path.{_≡_};
-ghost use mathlib.Core.Bool.{true};
 ghost use Prim.Native.Nat.{_-_, _≤_};
 ghost use lib.ListN.{getD, length};
-ghost use Rattle.base.specs.Gather.{fit, fits, pick, undigit};
+ghost use Rattle.base.specs.Gather.{pick, undigit};
 ghost use Rattle.base.specs.Kinds.{separator};
 ghost use Rattle.base.specs.Outcome.{overwrite};
 use super::kinds::Kind;
@@ -32,20 +31,6 @@ pub fn gather_digits(ids: &[u64], row: &[u8], out: &mut [u64])
     }
 }
 
-// The same for a row whose corners are all there, but for colons. Nothing is compared with the lengths,
-// so that a row which the compiler knows becomes one load and one store for each digit.
-pub fn gather_within(ids: &[u64], row: &[u8], out: &mut [u64])
-    requires { ⌜ length (now row) ≤ length (now out) ⌝ }
-    requires { ⌜ fits (length (now ids)) (now row) ≡ true ⌝ }
-    ensures { λ _. ⌜ now (out .exit) ≡ overwrite (pick (now (ids .entry)) (undigit (now (row .entry)))) (now (out .entry)) ⌝ }
-{
-    let mut place = 0;
-    while place < row.len() {
-        out[place] = node_within(ids, row[place]);
-        place += 1;
-    }
-}
-
 // The id at a corner; a corner past the last node stands for the separator.
 pub fn node(ids: &[u64], corner: usize) -> u64
     ensures { λ r. ⌜ r ≡ getD (now (ids .entry)) corner separator ⌝ }
@@ -57,17 +42,6 @@ pub fn node(ids: &[u64], corner: usize) -> u64
     }
 }
 
-// The id at the corner of a digit, or the separator at the colon.
-fn node_within(ids: &[u64], digit: u8) -> u64
-    requires { ⌜ fit (length (now ids)) digit ≡ true ⌝ }
-    ensures { λ r. ⌜ r ≡ getD (now (ids .entry)) (digit - 48) separator ⌝ }
-{
-    if digit == b':' {
-        return Kind::SEPARATOR;
-    }
-    ids[wide(digit) - 48]
-}
-
 // The corner that a digit of ASCII stands for. The colon, which follows 9, stands for corner 10.
 fn corner_of(digit: u8) -> usize
     ensures { λ r. ⌜ r ≡ digit - 48 ⌝ }
@@ -76,10 +50,4 @@ fn corner_of(digit: u8) -> usize
         return 0;
     }
     (digit - 48) as usize
-}
-
-fn wide(corner: u8) -> usize
-    ensures { λ r. ⌜ r ≡ corner ⌝ }
-{
-    corner as usize
 }

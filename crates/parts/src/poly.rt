@@ -2,13 +2,14 @@
 ghost use mathlib.Core.Path.{_≡_};
 ghost use mathlib.Core.Bool.{true};
 ghost use lib.ListN.{length};
-ghost use Rattle.base.specs.Gather.{fits, pick, undigit};
+ghost use Rattle.base.specs.Gather.{pick, undigit};
 ghost use Rattle.base.specs.Outcome.{Permits, settle};
+ghost use Rattle.parts.specs.Inner.Fit.{fits};
 ghost use Rattle.parts.specs.Poly.{polyKind, polyRefusal, toPoly};
+use super::gather::gather_within;
 use base::checks::element_refusal;
 use base::kinds::Kind;
 use base::lent::copy;
-use base::lent::gather_within;
 use base::refusals::Answer;
 use base::refusals::Refusal;
 

@@ -4,14 +4,15 @@ ghost use mathlib.Core.Bool.{true};
 ghost use mathlib.Core.List.{[]};
 ghost use lib.ListN.{length};
 ghost use Rattle.base.specs.Checks.{elementRefusal};
-ghost use Rattle.base.specs.Gather.{fits, pick, undigit};
+ghost use Rattle.base.specs.Gather.{pick, undigit};
 ghost use Rattle.base.specs.Outcome.{Permits, settleOne};
+ghost use Rattle.parts.specs.Inner.Fit.{fits};
 ghost use Rattle.parts.specs.Subentities.{alike, refusedParts, tableParts, toFirst};
+use super::gather::gather_within;
 use super::subentities::Parts;
 use super::subentities::given;
 use super::subentities::refused;
 use base::kinds::Kind;
-use base::lent::gather_within;
 use base::refusals::Refusal;
 
 // The sub-entities of an element that is not refused.

@@ -1,15 +1,16 @@
--- `lent::gather_within` meets its contract: before turn i the first i entries are picked, the others those at entry.
+-- `gather::gather_within` meets its contract: before turn i the first i entries are picked, the others those at entry.
 use borrow.Author.Needs.{needs}
 use mathlib.Core.Path.{_≡_, _∙_}
 use Prim.Native.Nat.{_≤_, _<_, _-_}
 use native.Mathlib.Omega.{arith}
 use mathlib.Core.List.{_++_}
 use lib.ListN.{length, take, drop, length-set}
 use Rattle.base.specs.Gather.{pick, undigit}
 use Rattle.base.proofs.Lists.{front-more, front-whole}
-use Rattle.base.proofs.Picks.{length-undigit, undigit-at, fits-at}
-use Rattle.base.proofs.lent.gather_within.Statement.{statement}
-use Rattle.base.proofs.lent.gather_within.Tie as tie
+use Rattle.base.proofs.Picks.{length-undigit, undigit-at}
+use Rattle.parts.proofs.Fitting.{fits-at}
+use Rattle.parts.proofs.gather.gather_within.Statement.{statement}
+use Rattle.parts.proofs.gather.gather_within.Tie as tie
 
 abbrev Inv-loop : tie.InvT-loop
 Inv-loop ids row out₀ i₀ out i = (i ≤ length row) × (length out ≡ length out₀) × (out ≡ take i (pick ids (undigit row)) ++ drop i out₀)

@@ -1,15 +1,16 @@
--- `lent::node_within` meets its contract: at the colon corner 10 is past the last, and any other corner is there.
+-- `gather::node_within` meets its contract: at the colon corner 10 is past the last, and any other corner is there.
 use borrow.Author.Needs.{needs}
 use borrow.Author.Tests.{leb-true}
 use mathlib.Core.Path.{_≡_, sym, ap, _∙_}
 use Prim.Native.Nat.{ℕ, _-_, _≤_, _<_}
 use native.Mathlib.Omega.{arith}
 use lib.ListN.{length, getD, List·getD-eq-default}
-use Rattle.base.specs.Gather.{fit}
+use Rattle.parts.specs.Inner.Fit.{fit}
 use Rattle.base.specs.Kinds.{separator}
-use Rattle.base.proofs.Picks.{fit-corner, within-default}
-use Rattle.base.proofs.lent.node_within.Statement.{statement}
-use Rattle.base.proofs.lent.node_within.Tie as tie
+use Rattle.base.proofs.Picks.{within-default}
+use Rattle.parts.proofs.Fitting.{fit-corner}
+use Rattle.parts.proofs.gather.node_within.Statement.{statement}
+use Rattle.parts.proofs.gather.node_within.Tie as tie
 
 returns : tie.Need-returns
 returns c =
