@@ -1,12 +1,12 @@
 -- The sub-entities of an element, and what `subentities` answers (document 01, 'Sub-entities').
 use Prim.Native.Nat.{ℕ, _+_}
-use mathlib.Core.Bool.{Bool, cond, _&&_, _||_}
+use mathlib.Core.Bool.{cond, _&&_, _||_}
 use mathlib.Core.List.{List, [], _∷_, flatten}
 use lib.Dec.{eqb, leb, ltb}
 use lib.ListN.{length}
 use Rattle.base.specs.Checks.{elementRefusal}
 use Rattle.base.specs.Gather.{pick}
-use Rattle.base.specs.Outcome.{Outcome, orElse, settleOne, settleTwo}
+use Rattle.base.specs.Outcome.{Outcome, orElse, settleTwo}
 use Rattle.faces.specs.Faces.{faces}
 use Rattle.faces.specs.Edges.{Edge, cycle}
 use Rattle.parts.specs.Tables.{tableOf, partsOf, kindAt, countAt, cornersOf}
@@ -85,14 +85,6 @@ refusedParts why = record { refusal = why; kind = 0; count = 0; kind2 = 0; count
 
 abbrev pub givenParts : Entities → Parts
 givenParts e = record { refusal = 0; kind = e .kind; count = e .count; kind2 = e .kind2; count2 = e .count2 }
-
--- an answer that nothing refuses but a lent slice that is too short
-abbrev pub toBoth : Entities → List ℕ × List ℕ → Outcome Parts (List ℕ × List ℕ)
-toBoth e lent = settleTwo refusedParts 0 (givenParts e) (e .ids) (e .ends) lent
-
--- the same of entities without ends, which leave the second slice alone
-abbrev pub toFirst : Entities → List ℕ → Outcome Parts (List ℕ)
-toFirst e out = settleOne refusedParts 0 (givenParts e) (e .ids) out
 
 -- what the operation answers, and what the two lent slices then hold
 unfoldable pub subentitiesOutcome : ℕ → Codimension → List ℕ → List ℕ × List ℕ → Outcome Parts (List ℕ × List ℕ)

@@ -1,5 +1,5 @@
 -- The sub-entities of each kind by their corners (document 01, 'Sub-entities').
-use Prim.Native.Nat.{ℕ, _-_}
+use Prim.Native.Nat.{ℕ}
 use mathlib.Core.List.{List, [], _∷_, _++_, map}
 use lib.ListN.{length, getD}
 use Rattle.base.specs.Kinds.{nodesOf}

@@ -5,7 +5,7 @@ ghost use mathlib.Core.List.{[], _∷_};
 ghost use Prim.Native.Nat.{_+_, _*_, _≤_};
 ghost use lib.ListN.{length};
 ghost use Rattle.base.specs.Kinds.{nodesOf};
-ghost use Rattle.records.specs.Place.{Written, putAt};
+ghost use Rattle.records.specs.Inner.Place.{Written, putAt};
 ghost use Rattle.records.specs.Text.{decimal, endText, line, places, recordText, simplexLines, spaced, spelled};
 use base::kinds::node_count;
 use base::refusals::Answer;

@@ -1,6 +1,6 @@
 // The head of a stored call: sixteen 2-byte numbers, of which the last four say nothing to it.
 ghost use Prim.Native.Nat.{_+_, _≤_};
-ghost use Rattle.replay.specs.Stored.{Fits};
+ghost use Rattle.replay.specs.Inner.Stored.{Fits};
 use super::words::LONGEST;
 use parts::subentities::Parts;
 use records::wire::two_at;

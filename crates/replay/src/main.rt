@@ -2,7 +2,7 @@
 // its lent outputs then hold, with what is stored. The last line has the sums.
 ghost use Prim.Native.Nat.{_≤_, _<_};
 ghost use lib.ListN.{length};
-ghost use Rattle.replay.specs.Stored.{Fits};
+ghost use Rattle.replay.specs.Inner.Stored.{Fits};
 use libc::STDIN_FILENO;
 use libc::STDOUT_FILENO;
 use parts::subentities::Parts;

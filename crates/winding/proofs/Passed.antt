@@ -16,11 +16,13 @@ use Rattle.base.proofs.Accepted.{element-accepted}
 use Rattle.base.proofs.Tests.{and-true}
 use Rattle.faces.specs.Faces.{faces, joined}
 use Rattle.winding.specs.Turn.{turned}
-use Rattle.winding.specs.Points.{pointsFit, pointCount, lacksPoint, Placed}
+use Rattle.winding.specs.Points.{pointsFit, pointCount, lacksPoint}
+use Rattle.winding.specs.Inner.Scan.{Placed}
 use Rattle.winding.specs.Plane.{zero64, signedArea2, woundInPlane}
 use Rattle.winding.specs.Reference.{referenceOf}
 use Rattle.winding.specs.Space.{looksIn, outward, woundInSpace}
-use Rattle.winding.specs.Reorient.{turnsInPlane, turnsInSpace, hasNoRule, wantsPoint, reorientRefusal, reoriented, answerSize}
+use Rattle.winding.specs.Reorient.{turnsInPlane, turnsInSpace, hasNoRule, wantsPoint, reorientRefusal, reoriented}
+use Rattle.winding.specs.Inner.Scan.{answerSize}
 use Rattle.winding.proofs.Turned.{length-turned}
 use Rattle.winding.proofs.Points.{placed-all}
 use Rattle.winding.proofs.Joined.{joined-length}

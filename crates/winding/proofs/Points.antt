@@ -15,7 +15,8 @@ use Rattle.base.specs.Checks.{holdsSeparator}
 use Rattle.faces.specs.declared.Face.{Face}
 use Rattle.faces.specs.Faces.{span, nextFace, part}
 use Rattle.faces.proofs.Walk.{Next}
-use Rattle.winding.specs.Points.{lacksPoint, Placed}
+use Rattle.winding.specs.Points.{lacksPoint}
+use Rattle.winding.specs.Inner.Scan.{Placed}
 
 -- ---- two numbers
 

@@ -11,7 +11,7 @@ use lib.Seq.{drop-cons, getD-drop}
 use Rattle.base.specs.Kinds.{separator}
 use Rattle.base.proofs.Picks.{within-default}
 use Rattle.faces.specs.Edges.{edge, along}
-use Rattle.winding.specs.Points.{Placed}
+use Rattle.winding.specs.Inner.Scan.{Placed}
 use Rattle.winding.proofs.Points.{less}
 
 -- the first node, to which the last edge leads back

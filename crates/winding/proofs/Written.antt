@@ -9,7 +9,7 @@ use Rattle.base.specs.Outcome.{overwrite}
 use Rattle.faces.specs.declared.Face.{Face}
 use Rattle.faces.specs.Faces.{faces, part, joined}
 use Rattle.faces.proofs.Walk.{Next, no-more}
-use Rattle.winding.specs.Scan.{piece, splice}
+use Rattle.winding.specs.Inner.Scan.{piece, splice}
 use Rattle.winding.proofs.Joined.{behind, behind-none, behind-lead, map-lead, piece-length, extends}
 
 module _ (g : List ℕ → List ℕ) (keeps : (f : List ℕ) → length (g f) ≡ length f) (ids out₀ : List ℕ) where

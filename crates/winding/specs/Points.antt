@@ -1,9 +1,9 @@
 -- The points that a list of numbers gives: two numbers each in the plane, three in space. Point i belongs to id i, from 0.
-use Prim.Native.Nat.{ℕ, _+_, _*_, _/_, _%_, _<_}
+use Prim.Native.Nat.{ℕ, _+_, _*_, _/_, _%_}
 use mathlib.Core.Bool.{Bool, false, cond, not, _&&_, _||_}
 use mathlib.Core.List.{List, [], _∷_}
 use lib.Dec.{eqb, leb}
-use lib.ListN.{length, getD}
+use lib.ListN.{getD}
 use lib.Ieee.{Float, nan}
 use Rattle.base.specs.Kinds.{separator}
 use Rattle.winding.specs.declared.point.Point.{Point}
@@ -27,7 +27,3 @@ pointAt points dimension id =
 unfoldable pub lacksPoint : ℕ → List ℕ → Bool
 lacksPoint count [] = false
 lacksPoint count (id ∷ ids) = (not (eqb id separator) && leb count id) || lacksPoint count ids
-
--- every entry of the list has one of so many points
-abbrev pub Placed : ℕ → List ℕ → Type 0
-Placed count list = (k : ℕ) → k < length list → getD list k 0 < count

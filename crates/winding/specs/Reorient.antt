@@ -5,12 +5,10 @@ use mathlib.Core.List.{List}
 use lib.Dec.{eqb}
 use lib.ListN.{length}
 use lib.Ieee.{Float}
-use Rattle.base.specs.Kinds.{separator}
 use Rattle.base.specs.Checks.{elementRefusal}
 use Rattle.base.specs.Outcome.{Outcome, orElse, settle}
 use Rattle.base.specs.Solids.{isSolid}
 use Rattle.base.specs.declared.refusals.Answer.{Answer}
-use Rattle.faces.specs.Faces.{faces, joined}
 use Rattle.winding.specs.Points.{pointsFit, pointCount, lacksPoint}
 use Rattle.winding.specs.Plane.{woundInPlane}
 use Rattle.winding.specs.Space.{woundInSpace}
@@ -46,10 +44,6 @@ reoriented kind ids dimension points =
     cond (turnsInSpace kind dimension) (woundInSpace points ids)
     (cond (turnsInPlane kind dimension) (woundInPlane points ids)
     ids)
-
--- how many entries that has
-unfoldable pub answerSize : ℕ → List ℕ → ℕ → ℕ
-answerSize kind ids dimension = cond (turnsInSpace kind dimension) (length (joined separator (faces ids))) (length ids)
 
 -- the answer over the front of out, with the kind given and the number of entries
 abbrev pub reorientOutcome : ℕ → List ℕ → ℕ → List Float → List ℕ → Outcome Answer (List ℕ)

@@ -2,7 +2,8 @@
 ghost use mathlib.Core.Path.{_≡_};
 ghost use lib.ListN.{length};
 ghost use lib.Ieee.{lt};
-ghost use Rattle.winding.specs.Points.{Placed, pointCount};
+ghost use Rattle.winding.specs.Points.{pointCount};
+ghost use Rattle.winding.specs.Inner.Scan.{Placed};
 ghost use Rattle.winding.specs.Plane.{cross as crossOf, signedArea2, zero64};
 use super::cycle::next_node;
 use super::point::IN_PLANE;

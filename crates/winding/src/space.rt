@@ -2,7 +2,8 @@
 ghost use mathlib.Core.Path.{_≡_};
 ghost use Prim.Native.Nat.{_<_};
 ghost use lib.ListN.{length};
-ghost use Rattle.winding.specs.Points.{Placed, pointCount};
+ghost use Rattle.winding.specs.Points.{pointCount};
+ghost use Rattle.winding.specs.Inner.Scan.{Placed};
 ghost use Rattle.winding.specs.Space.{addEdge, dotFrom, larger as largerOf, looksIn, normalOf, scaleOf, sizeOf};
 use super::cycle::next_node;
 use super::point::IN_SPACE;

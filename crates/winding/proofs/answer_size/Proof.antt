@@ -1,5 +1,5 @@
 -- `answer_size` meets its contract: the branches are the definition's.
-use Rattle.winding.specs.Reorient.{answerSize}
+use Rattle.winding.specs.Inner.Scan.{answerSize}
 use Rattle.winding.proofs.answer_size.Statement.{statement}
 use Rattle.winding.proofs.answer_size.Tie as tie
 

@@ -6,7 +6,7 @@ use native.Mathlib.Omega.{arith}
 use lib.ListN.{length}
 use Rattle.winding.specs.Plane.{woundInPlane}
 use Rattle.winding.specs.Space.{woundInSpace}
-use Rattle.winding.specs.Reorient.{answerSize}
+use Rattle.winding.specs.Inner.Scan.{answerSize}
 use Rattle.winding.proofs.Passed.{few, placed-in-space, placed-in-plane, in-space, in-plane, as-it-is, answer-length, paste-front}
 use Rattle.winding.proofs.wind.Statement.{statement}
 use Rattle.winding.proofs.wind.Tie as tie

@@ -6,7 +6,7 @@ use Prim.Native.Nat.{_+_, _*_, _≤_, _-_}
 use native.Mathlib.Omega.{arith}
 use lib.ListN.{length, getD, take}
 use lib.Seq.{take-length}
-use Rattle.records.specs.Place.{Written}
+use Rattle.records.specs.Inner.Place.{Written}
 use Rattle.records.specs.Text.{spaced}
 use Rattle.records.proofs.Places.{written-none, written-more}
 use Rattle.records.proofs.Lines.{spaced-more}

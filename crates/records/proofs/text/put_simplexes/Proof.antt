@@ -6,7 +6,7 @@ use native.Mathlib.Nat.{suc-mul}
 use native.Mathlib.Omega.{arith}
 use lib.ListN.{length, length-take}
 use Rattle.base.specs.Kinds.{nodesOf}
-use Rattle.records.specs.Place.{Written}
+use Rattle.records.specs.Inner.Place.{Written}
 use Rattle.records.specs.Text.{simplexLines}
 use Rattle.records.proofs.Places.{written-none, written-more}
 use Rattle.records.proofs.Lines.{simplexes-more, nodes-within}

@@ -10,7 +10,7 @@ use lib.ListN.{length, drop, length-append}
 use Rattle.base.specs.Kinds.{separator}
 use Rattle.faces.specs.Faces.{faces, part, joined}
 use Rattle.faces.proofs.Walk.{Next, next, no-more}
-use Rattle.winding.specs.Scan.{piece}
+use Rattle.winding.specs.Inner.Scan.{piece}
 use Rattle.winding.proofs.Joined.{behind, behind-none, behind-lead, piece-size, piece-le, length-part}
 use Rattle.winding.proofs.write.faces_size.Statement.{statement}
 use Rattle.winding.proofs.write.faces_size.Tie as tie

@@ -13,7 +13,7 @@ use denote.Ref.{now}
 use Rattle.base.specs.Kinds.{separator}
 use Rattle.winding.specs.Space.{looksIn, outward}
 use Rattle.winding.specs.Turn.{turned}
-use Rattle.winding.specs.Scan.{piece, splice}
+use Rattle.winding.specs.Inner.Scan.{piece, splice}
 use Rattle.winding.proofs.Turned.{length-turned}
 use Rattle.winding.proofs.Joined.{empty, piece-zero, piece-more, splice-nil, paste-splice, after-separator}
 use Rattle.winding.proofs.write.put_face.Statement.{statement}
