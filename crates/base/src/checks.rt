@@ -1,5 +1,7 @@
 // The checks that every input passes first: refusals 1 to 4, in that order.
 ghost use mathlib.Core.Path.{_≡_};
+ghost use mathlib.Core.Bool.{false};
+ghost use Prim.Native.Nat.{_<_};
 ghost use Rattle.base.specs.Checks.{blockRefusal, elementRefusal, holdsSeparator, inputRefusal};
 use super::kinds::Kind;
 use super::kinds::is_kind;
@@ -51,9 +53,35 @@ fn input_refusal(kind: u64, ids: &[u64], limit: usize, fits: bool) -> u64
     0
 }
 
-// Whether a separator stands in the list. The whole list is read with no early end, so that the
-// loop has no branch to mispredict and works on several ids at a time.
+// Whether a separator stands in the list. The ids are joined first: a separator has the highest bit,
+// and where no id has it, as is usual, there is none.
 fn holds_separator(ids: &[u64]) -> bool
+    ensures { λ r. ⌜ r ≡ holdsSeparator (now (ids .entry)) ⌝ }
+{
+    if all_bits(ids) < HIGHEST_BIT {
+        return false;
+    }
+    meets_separator(ids)
+}
+
+const HIGHEST_BIT: u64 = 0x8000_0000_0000_0000;
+
+// All bits of all ids. This and the search below read the whole list with no early end, so that their
+// loops have no branch to mispredict and work on several ids at a time.
+fn all_bits(ids: &[u64]) -> u64
+    ensures { λ r. ⌜ (r < 9223372036854775808 → holdsSeparator (now (ids .entry)) ≡ false) ⌝ }
+{
+    let mut bits = 0;
+    let mut i = 0;
+    while i < ids.len() {
+        bits = bits | ids[i];
+        i += 1;
+    }
+    bits
+}
+
+// The search itself.
+fn meets_separator(ids: &[u64]) -> bool
     ensures { λ r. ⌜ r ≡ holdsSeparator (now (ids .entry)) ⌝ }
 {
     let mut found = false;
