@@ -10,12 +10,13 @@ use lib.ListN.{length, take, drop, length-append, length-drop}
 use lib.Seq.{drop-drop, length-take-le}
 use borrow.Author.Tests.{eqb-true, eqb-false, ne-eqb}
 use Rattle.base.specs.Solids.{isSolid}
+use Rattle.base.specs.Gather.{pick}
 use Rattle.base.specs.Kinds.{nodesOf}
 use Rattle.base.specs.Outcome.{overwrite}
 use Rattle.base.specs.Checks.{blockRefusal}
 use Rattle.base.proofs.Accepted.{block-accepted}
 use Rattle.base.proofs.Lists.{overwrite-more}
-use Rattle.simplexes.specs.Split.{cut, split, splitCount, splitKind}
+use Rattle.simplexes.specs.Split.{cut, simplexes, split, splitCount, splitKind}
 use Rattle.simplexes.specs.Demand3.{Cell, splits}
 use Rattle.simplexes.proofs.Cuts.{split-length, three-rows, rows-most}
 use Rattle.blocks.specs.Blocks.{cells, counts, splitBlockRefusal}
@@ -150,6 +151,26 @@ cell-left i n m size h l =
 pub few-cells : (kind n size : ℕ) → Solid kind → n * nodesOf kind ≤ size → n * 4 ≤ size
 few-cells kind n size s h = let k = mul-le-mul-left n (s .least) in omega arith
 
+-- a whole TET4 takes four ids
+none-left : (n few : ℕ) → few < 4 → suc n * 4 ≤ few → ⊥
+none-left n few f h = omega (arith, suc-mul n 4)
+
+-- the tetrahedra of TET4s are their own ids
+tet-stays : (a b c d : ℕ) → split 11 (a ∷ b ∷ c ∷ d ∷ []) ≡ a ∷ b ∷ c ∷ d ∷ []
+unfolding split splitKind cut simplexes nodesOf pick
+tet-stays a b c d = refl
+
+pub tets-stay : (n : ℕ) (ids : List ℕ) → n * 4 ≤ length ids → splits (cells 11 n ids) ≡ take (n * 4) ids
+unfolding cells nodesOf
+tets-stay zero ids h = refl
+tets-stay (suc n) [] h = absurd (none-left n 0 (omega arith) h)
+tets-stay (suc n) (a ∷ []) h = absurd (none-left n 1 (omega arith) h)
+tets-stay (suc n) (a ∷ b ∷ []) h = absurd (none-left n 2 (omega arith) h)
+tets-stay (suc n) (a ∷ b ∷ c ∷ []) h = absurd (none-left n 3 (omega arith) h)
+tets-stay (suc n) (a ∷ b ∷ c ∷ d ∷ ids) h =
+    let e : suc n * 4 ≡ suc (suc (suc (suc (n * 4)))) = omega (arith, suc-mul n 4) in
+    rw (e, tet-stays a b c d, tets-stay n ids (omega (arith, h)))
+
 -- a TET4 is one tetrahedron, a WEDGE6 three, a HEX8 at most six
 pub tet-counts : (n : ℕ) (ids : List ℕ) → counts (cells 11 n ids) ≡ n
 unfolding cells counts splitCount cut
@@ -179,9 +200,16 @@ pub wedges-ids : (n : ℕ) (ids : List ℕ) → n * 12 ≡ length (splits (cells
 unfolding nodesOf splitKind
 wedges-ids n ids = omega (arith, four-each 13 refl n ids, wedge-counts n ids)
 
--- what fills space and is no TET4 and no WEDGE6 is a HEX8
+-- what fills space is a HEX8 if it is no TET4 and no WEDGE6, and a TET4 if it is none of the others
 pub hex-left : (kind : ℕ) → isSolid kind ≡ true → (kind ≡ 11 → ⊥) → (kind ≡ 13 → ⊥) → kind ≡ 15
 hex-left kind h a b = eqb-true kind 15 (simp (ne-eqb kind 11 a, ne-eqb kind 13 b) at h)
+
+pub tet-left : (kind : ℕ) → isSolid kind ≡ true → (kind ≡ 15 → ⊥) → (kind ≡ 13 → ⊥) → kind ≡ 11
+tet-left kind h a b = go (eqb kind 11) refl (simp (ne-eqb kind 13 b, ne-eqb kind 15 a) at h)
+  where
+    go : (x : Bool) → eqb kind 11 ≡ x → (x || false) ≡ true → kind ≡ 11
+    go true e h = eqb-true kind 11 e
+    go false e h = absurd (false≢true h)
 
 -- a block that is not refused: its kind fills space, its ids are few, and its cells are whole
 pub record Taken (kind : ℕ) (ids : List ℕ) : Type 0 where

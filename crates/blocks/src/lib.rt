@@ -17,10 +17,10 @@ ghost use Rattle.blocks.specs.Inner.Filled.{Filled};
 use base::checks::block_refusal;
 use base::kinds::Kind;
 use base::kinds::node_count;
+use base::lent::copy;
 use base::refusals::Answer;
 use base::refusals::Refusal;
 use simplexes::cells::count_hex;
-use simplexes::cells::write_cell;
 use simplexes::solids::hex_row;
 use simplexes::solids::wedge_row;
 use simplexes::solids::write_hex_row;
@@ -120,7 +120,7 @@ fn count_at(ids: &[u64], i: usize) -> usize
     count_hex(&ids[from..end]) as usize
 }
 
-// The tetrahedra of the first n cells over the front of out, and their number.
+// The tetrahedra of the first n cells over the front of out, and their number. Tetrahedra stay as they are.
 fn write_block(kind: u64, ids: &[u64], n: usize, out: &mut [u64]) -> u64
     requires { ⌜ (isSolid kind ≡ true) × (n * nodesOf kind ≤ length (now ids)) × (length (now ids) ≤ 65536) ⌝ }
     requires { ⌜ length (splits (cells kind n (now ids))) ≤ length (now out) ⌝ }
@@ -133,7 +133,8 @@ fn write_block(kind: u64, ids: &[u64], n: usize, out: &mut [u64]) -> u64
         write_wedges(ids, n, out);
         return n as u64 * 3;
     }
-    write_cells(kind, ids, n, out)
+    copy(&ids[..n * Kind::TET4_NODES], out);
+    n as u64
 }
 
 // The same for bricks. The next brick's row is found before this one is written, so that the search
@@ -231,35 +232,4 @@ fn write_wedge(
     let end = from + Kind::WEDGE6_NODES;
     let row = wedge_row(quads, &ids[from..end]);
     write_wedge_row(table, row, &ids[from..end], &mut out[at..])
-}
-
-// The same for any kind.
-fn write_cells(kind: u64, ids: &[u64], n: usize, out: &mut [u64]) -> u64
-    requires { ⌜ (isSolid kind ≡ true) × (n * nodesOf kind ≤ length (now ids)) ⌝ }
-    requires { ⌜ length (splits (cells kind n (now ids))) ≤ length (now out) ⌝ }
-    ensures { λ r. ⌜ Filled (cells kind n (now (ids .entry))) (now (out .entry)) r (now (out .exit)) ⌝ }
-{
-    let nodes = node_count(kind);
-    let mut at = 0;
-    let mut count = 0;
-    let mut i = 0;
-    while i < n {
-        let made = write_at(kind, ids, nodes, i, out, at);
-        at += made as usize * TET4_IDS;
-        count += made;
-        i += 1;
-    }
-    count
-}
-
-// The tetrahedra of cell i into the part of out that starts at `at`, and their number.
-fn write_at(kind: u64, ids: &[u64], nodes: usize, i: usize, out: &mut [u64], at: usize) -> u64
-    requires { ⌜ i * nodes + nodes ≤ length (now ids) ⌝ }
-    requires { ⌜ at + length (split kind (take nodes (drop (i * nodes) (now ids)))) ≤ length (now out) ⌝ }
-    ensures { λ r. ⌜ r ≡ splitCount kind (take nodes (drop (i * nodes) (now (ids .entry)))) ⌝ }
-    ensures { λ _. ⌜ now (out .exit) ≡ take at (now (out .entry)) ++ overwrite (split kind (take nodes (drop (i * nodes) (now (ids .entry))))) (drop at (now (out .entry))) ⌝ }
-{
-    let from = i * nodes;
-    let end = from + nodes;
-    write_cell(kind, &ids[from..end], &mut out[at..])
 }

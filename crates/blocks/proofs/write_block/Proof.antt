@@ -1,12 +1,31 @@
 -- `write_block` meets its contract: each kind has its loop.
 use borrow.Author.Needs.{needs}
 use mathlib.Core.Path.{_≡_, sym}
+use Prim.Native.Nat.{_*_, _≤_}
 use native.Mathlib.Omega.{arith}
+use lib.ListN.{length, take}
+use lib.Seq.{length-take-le}
 use Rattle.base.specs.Kinds.{nodesOf}
 use Rattle.blocks.specs.Inner.Filled.{Filled}
-use Rattle.blocks.proofs.Parts.{wedge-counts}
+use Rattle.blocks.proofs.Parts.{tet-counts, tet-left, tets-stay, wedge-counts}
 use Rattle.blocks.proofs.write_block.Statement.{statement}
 use Rattle.blocks.proofs.write_block.Tie as tie
+
+-- past both tests the kind is TET4
+is-tet : (c : tie.Else2) → c .before .before .before .before .args .kind ≡ 11
+is-tet c = tet-left _ (c .before .before .before .before .pre .0 .0) (c .before .if1 .left) (c .if2 .left)
+
+-- the ids of all tetrahedra are there, and find room
+whole : (c : tie.Else2) → c .before .before .before .before .args .n * 4 ≤ length (c .before .before .before .before .args .ids .now)
+unfolding nodesOf
+whole c = rw (is-tet c) at (c .before .before .before .before .pre .0 .1)
+
+room : (c : tie.Else2) →
+    let a = c .before .before .before .before .args in
+    length (take (a .n * 4) (a .ids .now)) ≤ length (a .out .now)
+room c =
+    let s = c .before .before .before .before in
+    rw (← tets-stay (s .args .n) (s .args .ids .now) (whole c)) (rw (is-tet c) at (s .pre .1))
 
 pub write-block-spec : {M : Type 1} → statement M
 unfolding nodesOf
@@ -30,6 +49,15 @@ write-block-spec =
     let s = c .before .before .before .before .before .before .before .before in
     rw (c .before .before .before .before .if2 .taken)
     (record { counted = sym (wedge-counts (s .args .n) (s .args .ids .now)); written = c .before .before .write-wedges .ensures }))
-    (λ c κs. let s = c .before .before .before .before .before in ((s .pre .0 .0, s .pre .0 .1), s .pre .1))
+    (λ c. record { fits = omega (arith, whole c, c .before .before .before .before .pre .0 .2) })
+    (λ c. sym (length-take-le _ _ (whole (c .before))))
+    (λ c κs. room (c .before .before))
     (λ c. search needs)
-    (λ c. c .before .before .write-cells .ensures))
+    (λ c.
+    let e = c .before .before .before .before .before in
+    let s = e .before .before .before .before in
+    rw (is-tet e)
+    (record {
+      counted = sym (tet-counts (s .args .n) (s .args .ids .now));
+      written = rw (tets-stay (s .args .n) (s .args .ids .now) (whole e)) (c .before .before .copy .ensures);
+    })))
