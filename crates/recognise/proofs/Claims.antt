@@ -14,14 +14,14 @@ use Rattle.base.specs.declared.refusals.Answer.{Answer}
 use Rattle.base.proofs.Tests.{and-true}
 use Rattle.faces.specs.Edges.{closed}
 use Rattle.faces.specs.Faces.{faces}
-use Rattle.recognise.specs.Brick.{brick, lacksOne, opposite, sides}
-use Rattle.recognise.specs.Cells.{Cell, cell}
+use Rattle.shapes.specs.Brick.{brick, lacksOne, opposite, sides}
+use Rattle.shapes.specs.Cells.{Cell, cell}
+use Rattle.shapes.specs.Seek.{nth}
+use Rattle.shapes.specs.Tet.{inTriangle, fourth}
+use Rattle.shapes.specs.Wedge.{after, placeInSecond, runsIn, wedge}
 use Rattle.recognise.specs.Claims.{fourthOr16, tetOr16, closedTriangles, FourthThere, NeverSixteen}
 use Rattle.recognise.specs.FromPoly.{fromPoly, plainKind, recognised}
 use Rattle.recognise.specs.Recognise.{fromFaces, mixed, nodesIn, otherLength, regular, tally}
-use Rattle.recognise.specs.Seek.{nth}
-use Rattle.recognise.specs.Tet.{inTriangle, fourth}
-use Rattle.recognise.specs.Wedge.{after, placeInSecond, runsIn, wedge}
 use Rattle.recognise.proofs.Never.{Of, isA, isB, isC, four, never}
 
 one-of : (a b c x : ℕ) → inTriangle a b c x ≡ true → Of a b c x

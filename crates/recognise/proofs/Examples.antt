@@ -9,12 +9,12 @@ use Rattle.base.specs.Outcome.{Outcome, decide, given, overwrite, refused, sett
 use Rattle.base.specs.declared.refusals.Answer.{Answer}
 use Rattle.faces.specs.Edges.{along, count, edges, twice}
 use Rattle.faces.specs.Faces.{faces, full, further, joined, runs}
-use Rattle.recognise.specs.Brick.{above, brick, hasEdge, home, opposite, place, side, sides, top, touches}
+use Rattle.shapes.specs.Brick.{above, brick, hasEdge, home, opposite, place, side, sides, top, touches}
+use Rattle.shapes.specs.Seek.{seek}
+use Rattle.shapes.specs.Tet.{fourth}
+use Rattle.shapes.specs.Wedge.{placeInSecond, runsAt, runsIn, wedge}
 use Rattle.recognise.specs.FromPoly.{fromPoly, plainKind, recognised}
 use Rattle.recognise.specs.Recognise.{fromFaces, mixed, nodesIn, otherLength, regular, tally}
-use Rattle.recognise.specs.Seek.{seek}
-use Rattle.recognise.specs.Tet.{fourth}
-use Rattle.recognise.specs.Wedge.{placeInSecond, runsAt, runsIn, wedge}
 
 -- a triangle and a quad, their nodes as digits
 abbrev tri : ℕ → List ℕ

@@ -1,11 +1,6 @@
--- The laws behind recognition: searches, edges read off the list, the walk over faces of one length, and what is returned.
-pub mod Seeks
-pub mod Pairs
-pub mod Flat
+-- The laws behind recognition: the walk over faces of one length, the usual lists, and what is claimed of the answers.
 pub mod Nodes
-pub mod Found
 pub mod Never
 pub mod Claims
-pub mod Numbering
 pub mod Usual
 mod Examples

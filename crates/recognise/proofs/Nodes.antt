@@ -15,7 +15,7 @@ use Rattle.base.proofs.Lists.{rest-back}
 use Rattle.faces.specs.declared.Face.{Face}
 use Rattle.faces.specs.Faces.{lead, faces, part}
 use Rattle.faces.proofs.Walk.{Next, no-more}
-use Rattle.recognise.specs.Filling.{added}
+use Rattle.recognise.specs.Inner.Filling.{added}
 use Rattle.recognise.specs.Recognise.{tally, otherLength, ofLength, nodesIn}
 
 tally-lead : (n : ℕ) (r : List ℕ) (fs : List (List ℕ)) → 0 < n

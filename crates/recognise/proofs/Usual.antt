@@ -1,7 +1,7 @@
 -- A list that is laid out as the poly forms are has the faces that stand at its known places, so the cell that it is can be
 -- read off them.
 use Prim.Native.Nat.{ℕ, zero, suc, _+_, _≤_, _<_}
-use mathlib.Core.Path.{_≡_, refl, sym, ap, _∙_}
+use mathlib.Core.Path.{_≡_, refl, sym, ap, ap₂, _∙_}
 use mathlib.Core.List.{List, [], _∷_}
 use mathlib.Core.Bool.{Bool, true, false, _&&_}
 use native.Mathlib.Omega.{arith}
@@ -15,11 +15,11 @@ use Rattle.base.proofs.Tests.{and-true}
 use Rattle.faces.specs.Edges.{along, edges}
 use Rattle.faces.specs.Faces.{faces, full, runs}
 use Rattle.faces.proofs.Walk.{no-more}
-use Rattle.recognise.specs.Laid.{isNode, triAt, quadAt, laidTet, laidBrick, laidWedge, tetNodes, brickQuads, wedgeTris, wedgeQuads, closedTet, closedBrick}
-use Rattle.recognise.specs.Numbers.{edgesBy}
+use Rattle.shapes.specs.Seek.{nth}
+use Rattle.shapes.specs.Wedge.{wedge}
+use Rattle.surfaces.specs.Inner.Numbers.{edgesBy}
+use Rattle.recognise.specs.Inner.Laid.{isNode, triAt, quadAt, laidTet, laidBrick, laidWedge, tetNodes, brickQuads, wedgeTris, wedgeQuads, closedTet, closedBrick}
 use Rattle.recognise.specs.Recognise.{fromFaces, fromPhed, mixed, nodesIn, otherLength, regular, tally}
-use Rattle.recognise.specs.Seek.{nth}
-use Rattle.recognise.specs.Wedge.{wedge}
 
 -- an entry that is a node is an entry of the list
 node-within : (l : List ℕ) (i : ℕ) → isNode l i ≡ true → i < length l
@@ -177,3 +177,7 @@ pub below : (n : ℕ) (list : List ℕ) → 0 < n → allBelow n list ≡ true �
 below n [] h e i = h
 below n (x ∷ list) h e zero = ltb-true x n (and-true (ltb x n) (allBelow n list) e .0)
 below n (x ∷ list) h e (suc i) = below n list h (and-true (ltb x n) (allBelow n list) e .1) i
+
+-- an array is the same as any that it equals entry by entry
+pub each : {x y : ℕ} {l m : List ℕ} → x ≡ y → l ≡ m → x ∷ l ≡ y ∷ m
+each e f = ap₂ (λ (x : ℕ) (l : List ℕ). x ∷ l) e f

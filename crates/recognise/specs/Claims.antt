@@ -7,11 +7,11 @@ use mathlib.Core.Bool.{Bool, cond, _&&_}
 use lib.ListN.{length, drop}
 use lib.Dec.{eqb}
 use Rattle.faces.specs.Edges.{closed}
-use Rattle.recognise.specs.Cells.{Cell, cell, none}
+use Rattle.shapes.specs.Cells.{Cell, cell, none}
+use Rattle.shapes.specs.Seek.{nth}
+use Rattle.shapes.specs.Tet.{inTriangle}
 use Rattle.recognise.specs.FromPoly.{fromPoly}
 use Rattle.recognise.specs.Recognise.{fromFaces, nodesIn, tally}
-use Rattle.recognise.specs.Seek.{nth}
-use Rattle.recognise.specs.Tet.{inTriangle}
 
 -- document 01's rule: a, b, c and the first of the nodes that is none of them; 16 if there is none
 unfoldable pub fourthOr16 : ℕ → ℕ → ℕ → List ℕ → Cell

@@ -7,7 +7,7 @@ use lib.ListN.{length}
 use Rattle.base.specs.Checks.{elementRefusal}
 use Rattle.base.specs.Outcome.{Outcome, orElse, settle}
 use Rattle.base.specs.declared.refusals.Answer.{Answer}
-use Rattle.recognise.specs.Cells.{Cell, cell, none}
+use Rattle.shapes.specs.Cells.{Cell, cell, none}
 use Rattle.recognise.specs.Recognise.{fromPhed}
 
 -- the kind of an element that is no PHED and has n nodes: PLINE 17 of 2 is SEG2, PGON 18 of 3 or 4 is TRI3 or

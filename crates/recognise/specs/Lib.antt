@@ -1,12 +1,4 @@
-pub mod Places
-pub mod Filling
-pub mod Cells
-pub mod Seek
-pub mod Tet
-pub mod Numbers
-pub mod Wedge
-pub mod Brick
-pub mod Laid
 pub mod Recognise
 pub mod FromPoly
 pub mod Claims
+pub mod Inner

@@ -6,10 +6,10 @@ use lib.Dec.{eqb}
 use lib.ListN.{length}
 use Rattle.faces.specs.Faces.{faces}
 use Rattle.faces.specs.Edges.{closed}
-use Rattle.recognise.specs.Cells.{Cell, none}
-use Rattle.recognise.specs.Tet.{tet}
-use Rattle.recognise.specs.Wedge.{wedge}
-use Rattle.recognise.specs.Brick.{brick}
+use Rattle.shapes.specs.Cells.{Cell, none}
+use Rattle.shapes.specs.Tet.{tet}
+use Rattle.shapes.specs.Wedge.{wedge}
+use Rattle.shapes.specs.Brick.{brick}
 
 -- how many faces have n nodes
 unfoldable pub tally : ℕ → List (List ℕ) → ℕ

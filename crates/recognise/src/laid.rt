@@ -3,17 +3,17 @@
 // taken from known places, without a walk over the faces.
 ghost use mathlib.Core.Path.{_≡_};
 ghost use Prim.Native.Nat.{_≤_};
-ghost use Rattle.recognise.specs.Cells.{Holds};
-ghost use Rattle.recognise.specs.Laid.{brickQuads, closedBrick, closedTet, laidBrick, laidTet, laidWedge, quadAt, tetNodes, triAt, wedgeQuads, wedgeTris};
-ghost use Rattle.recognise.specs.Wedge.{wedge};
-use super::brick::brick;
-use super::cells::Found;
-use super::numbers::closes;
-use super::tet::tet;
-use super::wedge::wedge;
+ghost use Rattle.shapes.specs.Inner.Holds.{Holds};
+ghost use Rattle.shapes.specs.Wedge.{wedge};
+ghost use Rattle.recognise.specs.Inner.Laid.{brickQuads, closedBrick, closedTet, laidBrick, laidTet, laidWedge, quadAt, tetNodes, triAt, wedgeQuads, wedgeTris};
 use base::kinds::Kind;
 use base::lent::node;
 use base::refusals::Refusal;
+use shapes::brick::brick;
+use shapes::cells::Found;
+use shapes::tet::tet;
+use shapes::wedge::wedge;
+use surfaces::numbers::closes;
 
 // The lengths of such lists.
 const TET_LIST: usize = 15;

@@ -4,11 +4,11 @@ ghost use Prim.Native.Nat.{_+_, _-_, _<_, _≤_};
 ghost use lib.ListN.{length};
 ghost use Rattle.base.specs.Outcome.{overwrite};
 ghost use Rattle.faces.specs.Faces.{faces, part};
-ghost use Rattle.recognise.specs.Filling.{added};
+ghost use Rattle.recognise.specs.Inner.Filling.{added};
 ghost use Rattle.recognise.specs.Recognise.{nodesIn, ofLength, otherLength, tally};
-use super::surface::one_if;
 use base::lent::copy;
 use faces::next_face;
+use surfaces::surface::one_if;
 
 // How many faces have n nodes.
 pub fn tally(ids: &[u64], n: usize) -> usize

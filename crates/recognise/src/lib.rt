@@ -9,17 +9,11 @@ use base::kinds::Kind;
 use base::lent::copy;
 use base::refusals::Answer;
 use base::refusals::Refusal;
-use cells::Found;
+use shapes::cells::Found;
 
-mod brick;
-mod cells;
 mod laid;
 mod lengths;
-mod numbers;
 mod phed;
-mod surface;
-mod tet;
-mod wedge;
 
 // What an element is recognised as, over the front of out: the kinds 1 to 16 as they are, a PLINE of
 // 2 nodes as SEG2, a PGON of 3 or 4 as TRI3 or QUAD4, a PHED by its faces. Refusals 1 to 4, 8 to 18

@@ -1,9 +1,7 @@
 // A PHED as the cell that its faces make.
 ghost use Rattle.faces.specs.Faces.{faces};
-ghost use Rattle.recognise.specs.Cells.{Holds};
+ghost use Rattle.shapes.specs.Inner.Holds.{Holds};
 ghost use Rattle.recognise.specs.Recognise.{fromPhed, mixed, regular};
-use super::brick::brick;
-use super::cells::Found;
 use super::laid::is_laid_brick;
 use super::laid::is_laid_tet;
 use super::laid::is_laid_wedge;
@@ -13,11 +11,13 @@ use super::laid::laid_wedge;
 use super::lengths::nodes_in;
 use super::lengths::other_length;
 use super::lengths::tally;
-use super::surface::is_closed;
-use super::tet::tet;
-use super::wedge::wedge;
 use base::kinds::Kind;
 use base::refusals::Refusal;
+use shapes::brick::brick;
+use shapes::cells::Found;
+use shapes::tet::tet;
+use shapes::wedge::wedge;
+use surfaces::surface::is_closed;
 
 // The nodes of four triangles and of six quads, and of a wedge's two triangles and three quads.
 const TET_TRIS: usize = 12;

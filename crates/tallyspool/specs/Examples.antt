@@ -12,12 +12,12 @@ use Rattle.faces.specs.Edges.{along, count, edges, twice}
 use Rattle.faces.specs.Faces.{faces, full, further, joined, runs}
 use Rattle.parts.specs.Poly.{polyIds, polyKind}
 use Rattle.parts.specs.Tables.{tableOf}
-use Rattle.recognise.specs.Brick.{above, brick, hasEdge, home, opposite, place, side, sides, top, touches}
 use Rattle.recognise.specs.FromPoly.{fromPoly, plainKind, recognised}
 use Rattle.recognise.specs.Recognise.{fromFaces, mixed, nodesIn, otherLength, regular, tally}
-use Rattle.recognise.specs.Seek.{seek}
-use Rattle.recognise.specs.Tet.{fourth}
-use Rattle.recognise.specs.Wedge.{placeInSecond, runsAt, runsIn, wedge}
+use Rattle.shapes.specs.Brick.{above, brick, hasEdge, home, opposite, place, side, sides, top, touches}
+use Rattle.shapes.specs.Seek.{seek}
+use Rattle.shapes.specs.Tet.{fourth}
+use Rattle.shapes.specs.Wedge.{placeInSecond, runsAt, runsIn, wedge}
 use Rattle.simplexes.specs.Split.{cut, simplexes, split, splitCount, splitKind, splitRefusal, toSimplexes}
 
 -- a cell split; a PHED of these faces recognised; a cell taken to its poly form and recognised again

@@ -1,7 +1,7 @@
 -- `laid::brick_quads` meets its contract: each entry is read from its place.
 use mathlib.Core.Path.{refl}
 use Rattle.base.specs.Gather.{pick}
-use Rattle.recognise.proofs.Found.{each}
+use Rattle.recognise.proofs.Usual.{each}
 use Rattle.recognise.proofs.laid.brick_quads.Statement.{statement}
 use Rattle.recognise.proofs.laid.brick_quads.Tie as tie
 

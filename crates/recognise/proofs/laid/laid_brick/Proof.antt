@@ -7,10 +7,10 @@ use borrow.Author.Tests.{not-true, not-false}
 use native.Mathlib.Omega.{arith}
 use lib.ListN.{length}
 use Rattle.base.specs.Gather.{pick}
-use Rattle.recognise.specs.Brick.{brick}
-use Rattle.recognise.specs.Cells.{none}
-use Rattle.recognise.specs.Laid.{closedBrick, quadNext}
-use Rattle.recognise.proofs.Found.{holds-as}
+use Rattle.shapes.specs.Brick.{brick}
+use Rattle.shapes.specs.Cells.{none}
+use Rattle.shapes.proofs.Found.{holds-as}
+use Rattle.recognise.specs.Inner.Laid.{closedBrick, quadNext}
 use Rattle.recognise.proofs.Usual.{below}
 use Rattle.recognise.proofs.laid.laid_brick.Statement.{statement}
 use Rattle.recognise.proofs.laid.laid_brick.Tie as tie

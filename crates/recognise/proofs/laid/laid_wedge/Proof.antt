@@ -3,8 +3,8 @@ use Prim.Native.Nat.{ℕ}
 use mathlib.Core.List.{List}
 use mathlib.Core.Path.{ap₂}
 use borrow.Author.Needs.{needs}
-use Rattle.recognise.specs.Wedge.{wedge}
-use Rattle.recognise.proofs.Found.{holds-as}
+use Rattle.shapes.specs.Wedge.{wedge}
+use Rattle.shapes.proofs.Found.{holds-as}
 use Rattle.recognise.proofs.laid.laid_wedge.Statement.{statement}
 use Rattle.recognise.proofs.laid.laid_wedge.Tie as tie
 

@@ -7,7 +7,7 @@ use native.Mathlib.Nat.{add-zero}
 use mathlib.Core.List.{_++_}
 use lib.ListN.{length, take, length-take, length-drop}
 use Rattle.base.proofs.Lists.{rest-whole}
-use Rattle.recognise.specs.Filling.{added}
+use Rattle.recognise.specs.Inner.Filling.{added}
 use Rattle.recognise.specs.Recognise.{ofLength}
 use Rattle.faces.specs.Faces.{part}
 use Rattle.recognise.proofs.Nodes.{length-part, of-length, not-of-length, none-added, part-home}

@@ -1,8 +1,8 @@
 -- `phed::by_lengths` meets its contract: each return knows how the tests above it went.
 use borrow.Author.Needs.{needs}
 use borrow.Author.Tests.{eq-eqb, ne-eqb}
+use Rattle.shapes.proofs.Found.{holds-as}
 use Rattle.recognise.specs.Recognise.{fromFaces}
-use Rattle.recognise.proofs.Found.{holds-as}
 use Rattle.recognise.proofs.phed.by_lengths.Statement.{statement}
 use Rattle.recognise.proofs.phed.by_lengths.Tie as tie
 

@@ -6,8 +6,8 @@ use borrow.Author.Tests.{eq-eqb, ne-eqb}
 use native.Mathlib.Omega.{arith}
 use lib.ListN.{length}
 use Rattle.faces.specs.Faces.{faces}
+use Rattle.shapes.proofs.Found.{holds-as}
 use Rattle.recognise.specs.Recognise.{mixed, nodesIn}
-use Rattle.recognise.proofs.Found.{holds-as}
 use Rattle.recognise.proofs.Nodes.{length-nodes, overwrite-whole}
 use Rattle.recognise.proofs.phed.mixed.Statement.{statement}
 use Rattle.recognise.proofs.phed.mixed.Tie as tie

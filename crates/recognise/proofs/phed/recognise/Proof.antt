@@ -1,6 +1,6 @@
 -- `phed::recognise` meets its contract: a list that is laid out so is the cell that its places make.
 use mathlib.Core.Path.{sym, _∙_}
-use Rattle.recognise.proofs.Found.{holds-as}
+use Rattle.shapes.proofs.Found.{holds-as}
 use Rattle.recognise.proofs.Usual.{laid-tet, laid-brick, laid-wedge}
 use Rattle.recognise.proofs.phed.recognise.Statement.{statement}
 use Rattle.recognise.proofs.phed.recognise.Tie as tie

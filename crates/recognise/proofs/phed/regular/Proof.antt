@@ -6,10 +6,10 @@ use borrow.Author.Tests.{eq-eqb, ne-eqb, not-true, not-false}
 use native.Mathlib.Omega.{arith}
 use lib.ListN.{length}
 use Rattle.faces.specs.Faces.{faces}
+use Rattle.shapes.specs.Tet.{tet}
+use Rattle.shapes.specs.Brick.{brick}
+use Rattle.shapes.proofs.Found.{holds-as}
 use Rattle.recognise.specs.Recognise.{regular, nodesIn}
-use Rattle.recognise.specs.Tet.{tet}
-use Rattle.recognise.specs.Brick.{brick}
-use Rattle.recognise.proofs.Found.{holds-as}
 use Rattle.recognise.proofs.Nodes.{length-nodes, overwrite-whole}
 use Rattle.recognise.proofs.phed.regular.Statement.{statement}
 use Rattle.recognise.proofs.phed.regular.Tie as tie
