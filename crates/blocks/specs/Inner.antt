@@ -1,2 +1,2 @@
--- What only the contracts of inner functions speak of.
+-- What the contracts of inner functions cite; no operation's contract needs it to be read.
 pub mod Filled

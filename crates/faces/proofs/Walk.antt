@@ -11,7 +11,8 @@ use lib.Seq.{drop-cons, drop-drop, length-take-le}
 use lib.Dec.{eqb}
 use Rattle.base.specs.Kinds.{separator}
 use Rattle.faces.specs.declared.Face.{Face}
-use Rattle.faces.specs.Faces.{Runs, onto, runs, lead, full, faces, agree, span, startOf, endOf, nextFace, part}
+use Rattle.faces.specs.Faces.{Runs, onto, runs, lead, full, faces}
+use Rattle.faces.specs.Inner.Walk.{agree, span, startOf, endOf, nextFace, part}
 
 -- one step of the walk over a span, where the test p of the entry at i is r
 pub span-step : (t : Bool) (l : List ℕ) (i : ℕ) (p r : Bool) → i < length l → p ≡ agree t (eqb (getD l i 0) separator) → p ≡ r

@@ -1,2 +1,3 @@
 pub mod Faces
 pub mod Edges
+pub mod Inner

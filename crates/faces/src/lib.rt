@@ -2,7 +2,7 @@
 ghost use mathlib.Core.Path.{_≡_};
 ghost use Prim.Native.Nat.{_+_, _≤_};
 ghost use lib.ListN.{drop, length};
-ghost use Rattle.faces.specs.Faces.{agree, nextFace, span};
+ghost use Rattle.faces.specs.Inner.Walk.{agree, nextFace, span};
 use base::kinds::Kind;
 
 // Where a face stands in the list: from start up to, and not with, end. Equal numbers are no face.

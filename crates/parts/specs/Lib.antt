@@ -1,4 +1,4 @@
-pub mod Inner
 pub mod Tables
 pub mod Subentities
 pub mod Poly
+pub mod Inner

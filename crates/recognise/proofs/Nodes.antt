@@ -13,7 +13,8 @@ use borrow.Rule.Slice.PartMut.{putMid}
 use Rattle.base.specs.Outcome.{overwrite}
 use Rattle.base.proofs.Lists.{rest-back}
 use Rattle.faces.specs.declared.Face.{Face}
-use Rattle.faces.specs.Faces.{lead, faces, part}
+use Rattle.faces.specs.Faces.{lead, faces}
+use Rattle.faces.specs.Inner.Walk.{part}
 use Rattle.faces.proofs.Walk.{Next, no-more}
 use Rattle.recognise.specs.Inner.Filling.{added}
 use Rattle.recognise.specs.Recognise.{tally, otherLength, ofLength, nodesIn}

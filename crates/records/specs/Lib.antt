@@ -1,4 +1,4 @@
-pub mod Inner
 pub mod Wire
 pub mod Frame
 pub mod Text
+pub mod Inner

@@ -11,7 +11,8 @@ use borrow.Author.Tests.{ne-eqb}
 use lib.ListN.{length, take, drop, set, take-append-drop, length-append, length-drop}
 use lib.Seq.{paste, take-all, take-suc-set, drop-set-lt, append-snoc, take-at, drop-append-add, drop-drop, length-take-le}
 use Rattle.base.specs.Kinds.{separator}
-use Rattle.faces.specs.Faces.{lead, part, joined, further}
+use Rattle.faces.specs.Faces.{lead, joined, further}
+use Rattle.faces.specs.Inner.Walk.{part}
 use Rattle.winding.specs.Inner.Scan.{piece, splice}
 
 pub empty : (l : List ℕ) → length l ≡ 0 → l ≡ []

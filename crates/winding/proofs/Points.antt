@@ -13,7 +13,7 @@ use borrow.Author.Tests.{eqb-true, eqb-false, eq-eqb, ne-eqb, leb-false}
 use Rattle.base.specs.Kinds.{separator}
 use Rattle.base.specs.Checks.{holdsSeparator}
 use Rattle.faces.specs.declared.Face.{Face}
-use Rattle.faces.specs.Faces.{span, nextFace, part}
+use Rattle.faces.specs.Inner.Walk.{span, nextFace, part}
 use Rattle.faces.proofs.Walk.{Next}
 use Rattle.winding.specs.Points.{lacksPoint}
 use Rattle.winding.specs.Inner.Scan.{Placed}

@@ -7,7 +7,8 @@ use lib.ListN.{length, drop, length-append, length-drop}
 use Rattle.base.specs.Kinds.{separator}
 use Rattle.base.specs.Outcome.{overwrite}
 use Rattle.faces.specs.declared.Face.{Face}
-use Rattle.faces.specs.Faces.{faces, part, joined}
+use Rattle.faces.specs.Faces.{faces, joined}
+use Rattle.faces.specs.Inner.Walk.{part}
 use Rattle.faces.proofs.Walk.{Next, no-more}
 use Rattle.winding.specs.Inner.Scan.{piece, splice}
 use Rattle.winding.proofs.Joined.{behind, behind-none, behind-lead, map-lead, piece-length, extends}

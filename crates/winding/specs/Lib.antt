@@ -3,7 +3,7 @@ pub mod Points
 pub mod Plane
 pub mod Reference
 pub mod Space
-pub mod Inner
 pub mod Reorient
 pub mod Exact
 pub mod Claims
+pub mod Inner

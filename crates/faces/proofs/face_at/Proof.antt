@@ -1,6 +1,6 @@
 -- `faces::face_at` meets its contract: it passes the separators, then the ids.
 use borrow.Author.Needs.{needs}
-use Rattle.faces.specs.Faces.{nextFace}
+use Rattle.faces.specs.Inner.Walk.{nextFace}
 use Rattle.faces.proofs.face_at.Statement.{statement}
 use Rattle.faces.proofs.face_at.Tie as tie
 

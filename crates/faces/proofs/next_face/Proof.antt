@@ -37,7 +37,7 @@ use denote.Triple.Table.{entered, cited}
 use denote.Triple.Walked.{says, Stays, stay-none, stay-none-slice, walkOf, goes-none, goes-none-slice, Walks, ends-at, walked, walk-meets}
 use denote.Exit.{yes}
 use denote.Triple.Clauses.{ensured, lasts}
-use Rattle.faces.specs.Faces.{nextFace}
+use Rattle.faces.specs.Inner.Walk.{nextFace}
 use Rattle.faces.specs.declared.Faces.{Faces}
 use Rattle.faces.specs.declared.Face.{Face}
 use Rattle.faces.proofs.Faces as T

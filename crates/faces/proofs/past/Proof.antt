@@ -5,7 +5,7 @@ use mathlib.Core.Bool.{true, false}
 use borrow.Author.Needs.{needs}
 use native.Mathlib.Omega.{arith}
 use lib.ListN.{length, drop}
-use Rattle.faces.specs.Faces.{span}
+use Rattle.faces.specs.Inner.Walk.{span}
 use Rattle.faces.proofs.Walk.{span-step, span-end}
 use Rattle.faces.proofs.past.Statement.{statement}
 use Rattle.faces.proofs.past.Tie as tie

@@ -6,7 +6,8 @@ use Prim.Native.Nat.{ℕ, _+_, _-_, _≤_, _<_}
 use native.Mathlib.Omega.{arith}
 use lib.ListN.{length, getD, take, drop, length-drop}
 use Rattle.base.proofs.Lists.{front-more}
-use Rattle.faces.specs.Faces.{faces, part}
+use Rattle.faces.specs.Faces.{faces}
+use Rattle.faces.specs.Inner.Walk.{part}
 use Rattle.faces.proofs.Walk.{Next, Found, next, next-found, next-none, no-more}
 use Rattle.parts.specs.Subentities.{endsFrom}
 use Rattle.parts.proofs.Apart.{left-fits, left-next, write-next, next-is, all-there, length-ends}

@@ -9,7 +9,7 @@ use lib.ListN.{length, take, length-take, length-drop}
 use Rattle.base.proofs.Lists.{rest-whole}
 use Rattle.recognise.specs.Inner.Filling.{added}
 use Rattle.recognise.specs.Recognise.{ofLength}
-use Rattle.faces.specs.Faces.{part}
+use Rattle.faces.specs.Inner.Walk.{part}
 use Rattle.recognise.proofs.Nodes.{length-part, of-length, not-of-length, none-added, part-home}
 use Rattle.recognise.proofs.lengths.add_face.Statement.{statement}
 use Rattle.recognise.proofs.lengths.add_face.Tie as tie

@@ -4,7 +4,8 @@ use mathlib.Core.Path.{_≡_, refl, _∙_}
 use borrow.Author.Needs.{needs}
 use native.Mathlib.Omega.{arith}
 use lib.ListN.{length, drop}
-use Rattle.faces.specs.Faces.{faces, part}
+use Rattle.faces.specs.Faces.{faces}
+use Rattle.faces.specs.Inner.Walk.{part}
 use Rattle.faces.proofs.Walk.{Next, next}
 use Rattle.recognise.specs.Recognise.{nodesIn, ofLength}
 use Rattle.recognise.proofs.Nodes.{nodes-step, nodes-end, length-part, of-length, Filled, filled-room, filled-more, filled-all}

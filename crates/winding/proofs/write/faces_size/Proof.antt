@@ -8,7 +8,8 @@ use mathlib.Core.Bool.{cond}
 use lib.Dec.{eqb}
 use lib.ListN.{length, drop, length-append}
 use Rattle.base.specs.Kinds.{separator}
-use Rattle.faces.specs.Faces.{faces, part, joined}
+use Rattle.faces.specs.Faces.{faces, joined}
+use Rattle.faces.specs.Inner.Walk.{part}
 use Rattle.faces.proofs.Walk.{Next, next, no-more}
 use Rattle.winding.specs.Inner.Scan.{piece}
 use Rattle.winding.proofs.Joined.{behind, behind-none, behind-lead, piece-size, piece-le, length-part}
