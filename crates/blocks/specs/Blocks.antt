@@ -1,16 +1,15 @@
 -- A block of cells of one kind and how it is split (document 01, the end of 'To simplexes').
 use Prim.Native.Nat.{ℕ, zero, suc, _+_, _/_}
-use mathlib.Core.Path.{_≡_}
 use mathlib.Core.Bool.{cond}
 use mathlib.Core.List.{List, [], _∷_}
 use lib.ListN.{length, take, drop}
 use Rattle.base.specs.Solids.{isSolid}
 use Rattle.base.specs.Kinds.{nodesOf}
 use Rattle.base.specs.Checks.{blockRefusal}
-use Rattle.base.specs.Outcome.{Outcome, orElse, overwrite, settle}
+use Rattle.base.specs.Outcome.{Outcome, orElse, settle}
 use Rattle.base.specs.declared.refusals.Answer.{Answer}
-use Rattle.simplexes.specs.Split.{splitCount}
-use Rattle.simplexes.specs.Demand3.{Cell, splits}
+use Rattle.cuts.specs.Split.{splitCount}
+use Rattle.cuts.specs.Demand3.{Cell, splits}
 
 -- the first n cells of a block, each of as many ids as the kind has nodes
 unfoldable pub cells : ℕ → ℕ → List ℕ → List Cell
@@ -33,8 +32,3 @@ splitBlockRefusal kind ids = orElse (blockRefusal kind ids) (cond (isSolid kind)
 unfoldable pub splitBlock : ℕ → List ℕ → List ℕ → Outcome Answer (List ℕ)
 splitBlock kind ids out =
     settle (splitBlockRefusal kind ids) 11 (counts (cellsOf kind ids)) (splits (cellsOf kind ids)) out
-
--- the tetrahedra of cells stand over the front of what out was, and count is their number
-pub record Filled (cs : List Cell) (out : List ℕ) (count : ℕ) (lent : List ℕ) : Type 0 where
-  pub counted : count ≡ counts cs
-  pub written : lent ≡ overwrite (splits cs) out

@@ -4,7 +4,7 @@ ghost use Prim.Native.Nat.{_+_, _-_, _%_, _<_, _≤_};
 ghost use lib.ListN.{drop, length, take};
 ghost use Rattle.records.specs.Frame.{frameAt};
 ghost use Rattle.records.specs.Place.{Written};
-ghost use Rattle.split.specs.State.{Countable, Counted, Sound};
+ghost use Rattle.split.specs.Inner.State.{Countable, Counted, Sound};
 ghost use Rattle.split.specs.Text.{cellText, splitText};
 use base::refusals::Answer;
 use base::refusals::Refusal;

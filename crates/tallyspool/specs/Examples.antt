@@ -18,7 +18,7 @@ use Rattle.recognise.specs.Recognise.{fromFaces, mixed, nodesIn, otherLength, r
 use Rattle.recognise.specs.Seek.{seek}
 use Rattle.recognise.specs.Tet.{fourth}
 use Rattle.recognise.specs.Wedge.{placeInSecond, runsAt, runsIn, wedge}
-use Rattle.simplexes.specs.Split.{cut, simplexes, split, splitCount, splitKind, splitRefusal, toSimplexes}
+use Rattle.cuts.specs.Split.{cut, simplexes, split, splitCount, splitKind, splitRefusal, toSimplexes}
 
 -- a cell split; a PHED of these faces recognised; a cell taken to its poly form and recognised again
 pub data Asked : Type 0 where

@@ -6,7 +6,7 @@ use native.Mathlib.Omega.{arith}
 use lib.ListN.{take, drop, length-drop}
 use Rattle.base.specs.Outcome.{overwrite}
 use Rattle.base.proofs.Lists.{rest-whole, rest-back}
-use Rattle.simplexes.specs.Split.{split, splitCount}
+use Rattle.cuts.specs.Split.{split, splitCount}
 use Rattle.blocks.proofs.Parts.{part}
 use Rattle.blocks.proofs.write_at.Statement.{statement}
 use Rattle.blocks.proofs.write_at.Tie as tie

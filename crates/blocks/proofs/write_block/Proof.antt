@@ -3,7 +3,7 @@ use borrow.Author.Needs.{needs}
 use mathlib.Core.Path.{_≡_, sym}
 use native.Mathlib.Omega.{arith}
 use Rattle.base.specs.Kinds.{nodesOf}
-use Rattle.blocks.specs.Blocks.{Filled}
+use Rattle.blocks.specs.Inner.Filled.{Filled}
 use Rattle.blocks.proofs.Parts.{wedge-counts}
 use Rattle.blocks.proofs.write_block.Statement.{statement}
 use Rattle.blocks.proofs.write_block.Tie as tie

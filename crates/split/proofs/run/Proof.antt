@@ -1,7 +1,7 @@
 -- `run` meets its contract: no more records begin than steps are counted, so that their number fits.
 use borrow.Author.Needs.{needs}
 use Prim.Native.Nat.{_+_, _≤_}
-use Rattle.split.specs.State.{Sound}
+use Rattle.split.specs.Inner.State.{Sound}
 use Rattle.split.proofs.run.Statement.{statement}
 use Rattle.split.proofs.run.Tie as tie
 
