@@ -2,7 +2,7 @@
 """Draws docs/brick-table.svg, the brick's table for the drawing office wall, from the constant in the code.
 
 Usage: docs/brick-table.py [SOURCE [PAGE]]. SOURCE is the Rattle file that holds the constant, or a folder of
-such files; it is crates/simplexes/src unless another is named. PAGE is the file to write, - for standard output.
+such files; it is crates/cuts/src unless another is named. PAGE is the file to write, - for standard output.
 
 The page is A3, landscape, in millimetres. Each of the 64 lines is a group `row-N` of its own, whose texts
 are three diagonals and the tetrahedra; each box is a group `box-P`, whose heads are the three faces.
@@ -12,7 +12,7 @@ import re
 import sys
 
 ROOT = os.path.join(os.path.dirname(os.path.abspath(__file__)), "..")
-SOURCE = os.path.join(ROOT, "crates/simplexes/src")
+SOURCE = os.path.join(ROOT, "crates/cuts/src")
 PAGE = os.path.join(ROOT, "docs/brick-table.svg")
 
 # The brick's corners in the order that begins at the smallest (document 01), by smallest position.
@@ -217,7 +217,7 @@ def page(rows):
         "</style>",
         '<rect width="420" height="297" style="fill: white; stroke: none"/>',
         *drawn,
-        text(10, 294.6, "Made by docs/brick-table.py from the table that the proved code uses (crates/simplexes).", 2.8),
+        text(10, 294.6, "Made by docs/brick-table.py from the table that the proved code uses (crates/cuts).", 2.8),
         "</svg>", ""])
 
 

@@ -8,7 +8,7 @@ use Rattle.base.specs.Checks.{blockRefusal, inputRefusal, blockFits, strays, ho
 use Rattle.base.specs.Gather.{pick, digits, corners}
 use Rattle.base.specs.Outcome.{Outcome, decide, settle, settleOne, overwrite, given, refused}
 use Rattle.base.specs.declared.refusals.Answer.{Answer}
-use Rattle.simplexes.specs.Split.{cut, simplexes, split, splitCount, splitKind}
+use Rattle.cuts.specs.Split.{cut, simplexes, split, splitCount, splitKind}
 use Rattle.blocks.specs.Blocks.{cells, counts, splitBlock, splitBlockRefusal}
 
 -- a kind, the ids of a block, and as many entries of 9 lent; what is then answered, and what was lent then holds

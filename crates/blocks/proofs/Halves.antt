@@ -17,7 +17,7 @@ use Rattle.base.proofs.Accepted.{block-accepted, block-nodes}
 use Rattle.base.proofs.Lists.{overwrite-front, overwrite-rest, overwrite-more}
 use Rattle.base.proofs.Tests.{or-assoc}
 use Rattle.base.proofs.Settle.{settle-gives}
-use Rattle.simplexes.specs.Demand3.{Cell, splits}
+use Rattle.cuts.specs.Demand3.{Cell, splits}
 use Rattle.blocks.specs.Blocks.{cells, cellsOf, counts, splitBlock, splitBlockRefusal}
 use Rattle.blocks.specs.Promises.{CutAnywhere}
 use Rattle.blocks.proofs.Parts.{taken, solid-is, four-each, cells-append, splits-append, counts-append}

@@ -16,9 +16,9 @@ use Rattle.base.specs.Outcome.{overwrite}
 use Rattle.base.specs.Checks.{blockRefusal}
 use Rattle.base.proofs.Accepted.{block-accepted}
 use Rattle.base.proofs.Lists.{overwrite-more}
-use Rattle.simplexes.specs.Split.{cut, simplexes, split, splitCount, splitKind}
-use Rattle.simplexes.specs.Demand3.{Cell, splits}
-use Rattle.simplexes.proofs.Cuts.{split-length, three-rows, rows-most}
+use Rattle.cuts.specs.Split.{cut, simplexes, split, splitCount, splitKind}
+use Rattle.cuts.specs.Demand3.{Cell, splits}
+use Rattle.cuts.proofs.Cuts.{split-length, three-rows, rows-most}
 use Rattle.blocks.specs.Blocks.{cells, counts, splitBlockRefusal}
 
 pub splits-append : (cs ds : List Cell) → splits (cs ++ ds) ≡ splits cs ++ splits ds

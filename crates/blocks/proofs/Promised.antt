@@ -10,8 +10,8 @@ use Rattle.base.specs.Outcome.{Outcome, overwrite, settle, settleOne, decide, g
 use Rattle.base.specs.declared.refusals.Answer.{Answer}
 use Rattle.base.proofs.Lists.{overwrite-front, overwrite-rest}
 use Rattle.base.proofs.Settle.{settle-gives}
-use Rattle.simplexes.specs.Demand3.{splits}
-use Rattle.simplexes.proofs.NoSlit.{total-over}
+use Rattle.cuts.specs.Demand3.{splits}
+use Rattle.cuts.proofs.NoSlit.{total-over}
 use Rattle.blocks.specs.Blocks.{cellsOf, counts, splitBlock, splitBlockRefusal}
 use Rattle.blocks.specs.Promises.{Kept}
 use Rattle.blocks.proofs.Parts.{taken, solid-is, four-each}

@@ -8,8 +8,8 @@ use Rattle.base.specs.Kinds.{nodesOf}
 use Rattle.base.specs.Checks.{blockRefusal}
 use Rattle.base.specs.Outcome.{Outcome, orElse, settle}
 use Rattle.base.specs.declared.refusals.Answer.{Answer}
-use Rattle.simplexes.specs.Split.{splitCount}
-use Rattle.simplexes.specs.Demand3.{Cell, splits}
+use Rattle.cuts.specs.Split.{splitCount}
+use Rattle.cuts.specs.Demand3.{Cell, splits}
 
 -- the first n cells of a block, each of as many ids as the kind has nodes
 unfoldable pub cells : ℕ → ℕ → List ℕ → List Cell

@@ -6,8 +6,8 @@ use lib.ListN.{length, take, drop}
 use Rattle.base.specs.Kinds.{nodesOf}
 use Rattle.base.specs.Outcome.{Permits}
 use Rattle.base.specs.declared.refusals.Answer.{Answer}
-use Rattle.simplexes.specs.Triangle.{Tri, total, tetTris}
-use Rattle.simplexes.specs.Demand3.{AllProper, splits, outsides}
+use Rattle.cuts.specs.Triangle.{Tri, total, tetTris}
+use Rattle.cuts.specs.Demand3.{AllProper, splits, outsides}
 use Rattle.blocks.specs.Blocks.{cellsOf, splitBlock}
 
 -- for every block that is split, answered with r, with this left in what was lent

@@ -8,10 +8,10 @@ ghost use lib.ListN.{drop, length, take};
 ghost use Rattle.base.specs.Solids.{isSolid};
 ghost use Rattle.base.specs.Kinds.{nodesOf};
 ghost use Rattle.base.specs.Outcome.{Permits, overwrite};
-ghost use Rattle.simplexes.specs.Demand3.{splits};
-ghost use Rattle.simplexes.specs.Split.{split, splitCount};
-ghost use Rattle.simplexes.specs.Strings.{hexStrings, quadStrings, turnStrings, wedgeStrings};
-ghost use Rattle.simplexes.specs.Table.{hexPlace};
+ghost use Rattle.cuts.specs.Demand3.{splits};
+ghost use Rattle.cuts.specs.Split.{split, splitCount};
+ghost use Rattle.cuts.specs.Inner.Strings.{hexStrings, quadStrings, turnStrings, wedgeStrings};
+ghost use Rattle.cuts.specs.Table.{hexPlace};
 ghost use Rattle.blocks.specs.Blocks.{cells, counts, splitBlock, splitBlockRefusal};
 ghost use Rattle.blocks.specs.Inner.Filled.{Filled};
 use base::checks::block_refusal;
@@ -20,12 +20,12 @@ use base::kinds::node_count;
 use base::lent::copy;
 use base::refusals::Answer;
 use base::refusals::Refusal;
+use cuts::tables;
 use simplexes::cells::count_hex;
 use simplexes::solids::hex_row;
 use simplexes::solids::wedge_row;
 use simplexes::solids::write_hex_row;
 use simplexes::solids::write_wedge_row;
-use simplexes::tables;
 
 // The tetrahedra of a block of TET4, WEDGE6 or HEX8 over the front of out, cell after cell. It
 // refuses with 1 to 4, then 6 for another kind, then 7 if out is shorter than what is to be written.

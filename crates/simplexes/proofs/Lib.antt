@@ -1,13 +1,4 @@
--- The laws behind the proofs of the split.
-pub mod Laws
-pub mod Least
-pub mod Strings
-pub mod Cuts
-pub mod Table
-pub mod KindTest
-pub mod Winding
-pub mod OneCell
-pub mod NoSlit
-pub mod Shared
-pub mod Demand3
-mod Examples
+-- The laws behind the proofs of the code that splits.
+mod Laws
+mod Scan
+mod Written

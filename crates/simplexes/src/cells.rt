@@ -7,18 +7,19 @@ ghost use lib.Dec.{eqb};
 ghost use lib.ListN.{getD, length};
 ghost use Rattle.base.specs.Gather.{corners, digits, undigit};
 ghost use Rattle.base.specs.Kinds.{nodesOf};
-ghost use Rattle.simplexes.specs.Rows.{branch, quadRows, renumberings, segRows};
-ghost use Rattle.simplexes.specs.Smallest.{firstDiagonal, smallestPos};
-ghost use Rattle.simplexes.specs.Split.{Written, cut, hexCase, hexCut, renumbered, simplexes, split, splitCount, splitKind, wedgeCut};
-ghost use Rattle.simplexes.specs.Strings.{caseStrings};
+ghost use Rattle.cuts.specs.Inner.Strings.{caseStrings};
+ghost use Rattle.cuts.specs.Rows.{branch, quadRows, renumberings, segRows};
+ghost use Rattle.cuts.specs.Smallest.{firstDiagonal, smallestPos};
+ghost use Rattle.cuts.specs.Split.{cut, hexCase, hexCut, renumbered, simplexes, split, splitCount, splitKind, wedgeCut};
+ghost use Rattle.simplexes.specs.Inner.Written.{Written};
 use super::smallest::first_diagonal;
 use super::smallest::on_first;
 use super::smallest::smallest;
 use super::smallest::smallest_of_eight;
 use super::solids;
-use super::tables;
 use base::kinds::Kind;
 use base::lent::gather_digits;
+use cuts::tables;
 
 // The simplexes of one cell over the front of out, and their number; none where there is no rule.
 pub fn write_cell(kind: u64, ids: &[u64], out: &mut [u64]) -> u64

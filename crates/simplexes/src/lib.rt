@@ -1,7 +1,9 @@
 // The split of one cell into simplexes.
 ghost use mathlib.Core.Path.{_≡_};
 ghost use Rattle.base.specs.Outcome.{Permits};
-ghost use Rattle.simplexes.specs.Split.{AtMost, splitCell, splitKind, splitRefusal, toSimplexes};
+ghost use Rattle.cuts.specs.Split.{splitKind, splitRefusal, toSimplexes};
+ghost use Rattle.simplexes.specs.ByValue.{splitCell};
+ghost use Rattle.simplexes.specs.Inner.Written.{AtMost};
 use base::checks::element_refusal;
 use base::kinds::Kind;
 use base::kinds::node_count;
@@ -13,7 +15,6 @@ use cells::write_cell;
 pub mod cells;
 mod smallest;
 pub mod solids;
-pub mod tables;
 
 // The simplexes of one cell: their kind, their number, and their ids from the front, 0 in the places
 // that are left. The kind is 0 where there is no rule.

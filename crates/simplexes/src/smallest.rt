@@ -4,7 +4,8 @@ ghost use mathlib.Core.List.{[], _∷_};
 ghost use Prim.Native.Nat.{_+_, _<_, _≤_};
 ghost use lib.ListN.{length};
 ghost use Rattle.base.specs.Gather.{pick, undigit};
-ghost use Rattle.simplexes.specs.Smallest.{entryOf, firstDiagonal, lesserOf, smallestPos};
+ghost use Rattle.cuts.specs.Smallest.{firstDiagonal, smallestPos};
+ghost use Rattle.simplexes.specs.Inner.Lesser.{entryOf, lesserOf};
 use base::lent::gather_digits;
 use base::lent::node;
 

@@ -4,17 +4,18 @@ ghost use Prim.Native.Nat.{_*_, _-_, _<_, _≤_};
 ghost use lib.ListN.{getD, length, set, take};
 ghost use Rattle.base.specs.Gather.{pick, undigit};
 ghost use Rattle.base.specs.Outcome.{overwrite};
-ghost use Rattle.simplexes.specs.Smallest.{firstDiagonal};
-ghost use Rattle.simplexes.specs.Split.{Written, hexCut, simplexes, wedgeCut};
-ghost use Rattle.simplexes.specs.Strings.{Within, hexStrings, quadStrings, turnStrings, wedgePlace, wedgeStrings};
-ghost use Rattle.simplexes.specs.Table.{hexPlace};
+ghost use Rattle.cuts.specs.Inner.Strings.{Within, hexStrings, quadStrings, turnStrings, wedgePlace, wedgeStrings};
+ghost use Rattle.cuts.specs.Smallest.{firstDiagonal};
+ghost use Rattle.cuts.specs.Split.{hexCut, simplexes, wedgeCut};
+ghost use Rattle.cuts.specs.Table.{hexPlace};
+ghost use Rattle.simplexes.specs.Inner.Written.{Written};
 use super::cells::hex_case;
 use super::cells::second;
 use super::smallest::on_first;
 use super::smallest::smallest_of_eight;
 use super::smallest::smallest_of_six;
-use super::tables::HEX_CASES;
-use super::tables::row_count;
+use cuts::tables::HEX_CASES;
+use cuts::tables::row_count;
 
 // The row of the brick's table that a brick is cut by.
 pub fn hex_row(renumberings: &[[u8; 8]; 8], ids: &[u64]) -> usize

@@ -4,7 +4,7 @@ use mathlib.Core.List.{List}
 use lib.ListN.{length, replicate}
 use Rattle.records.specs.Text.{recordText}
 use Rattle.records.specs.Wire.{idsIn}
-use Rattle.simplexes.specs.Split.{toSimplexes}
+use Rattle.cuts.specs.Split.{toSimplexes}
 
 -- the text of what the split of the cell answers; 24 places hold the simplexes of any cell
 unfoldable pub cellText : ℕ → ℕ → List ℕ → List ℕ

@@ -3,7 +3,7 @@ use mathlib.Core.Path.{_≡_, refl}
 use Rattle.base.specs.Kinds.{nodesOf}
 use Rattle.parts.specs.Tables.{partsOf, tableOf}
 use Rattle.parts.specs.Poly.{rowsOf}
-use Rattle.simplexes.specs.Demand3.{facesOf}
+use Rattle.cuts.specs.Demand3.{facesOf}
 
 pub tet-faces-agree : facesOf 11 ≡ rowsOf (partsOf 11 1)
 unfolding tableOf nodesOf

@@ -10,7 +10,7 @@ use Rattle.base.specs.Outcome.{Outcome, decide, settle, settleOne, overwrite, g
 use Rattle.base.specs.declared.refusals.Answer.{Answer}
 use Rattle.records.specs.Frame.{frameAt, oddLength}
 use Rattle.records.specs.Wire.{number, lowBytes, idsIn, idBytes}
-use Rattle.simplexes.specs.Split.{cut, simplexes, split, splitCount, splitKind, splitRefusal, toSimplexes}
+use Rattle.cuts.specs.Split.{cut, simplexes, split, splitCount, splitKind, splitRefusal, toSimplexes}
 use Rattle.tallyspool.specs.Record.{splitRecord}
 
 -- bytes, and what is answered where 12 entries of 7 are lent, and what they then hold

@@ -14,7 +14,7 @@ use Rattle.base.proofs.Tables.{at}
 use Rattle.base.proofs.Tests.{and-true}
 use Rattle.records.specs.Wire.{idsIn}
 use Rattle.records.proofs.Frames.{Stands}
-use Rattle.simplexes.specs.Split.{splitKind, splitRefusal}
+use Rattle.cuts.specs.Split.{splitKind, splitRefusal}
 
 -- a number of two halves is the separator if both are
 pub both-halves : (low high : ℕ) → low < 4294967296 → high < 4294967296

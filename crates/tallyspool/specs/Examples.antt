@@ -18,7 +18,7 @@ use Rattle.shapes.specs.Brick.{above, brick, hasEdge, home, opposite, place, si
 use Rattle.shapes.specs.Seek.{seek}
 use Rattle.shapes.specs.Tet.{fourth}
 use Rattle.shapes.specs.Wedge.{placeInSecond, runsAt, runsIn, wedge}
-use Rattle.simplexes.specs.Split.{cut, simplexes, split, splitCount, splitKind, splitRefusal, toSimplexes}
+use Rattle.cuts.specs.Split.{cut, simplexes, split, splitCount, splitKind, splitRefusal, toSimplexes}
 
 -- a cell split; a PHED of these faces recognised; a cell taken to its poly form and recognised again
 pub data Asked : Type 0 where

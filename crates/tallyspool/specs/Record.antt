@@ -10,7 +10,7 @@ use Rattle.records.specs.Frame.{frameAt}
 use Rattle.records.specs.Wire.{idsIn}
 use Rattle.records.specs.declared.frame.Frame.{Frame}
 use Rattle.records.specs.declared.frame.Frame.the-variants.{Whole, End, Cut, Odd}
-use Rattle.simplexes.specs.Split.{toSimplexes}
+use Rattle.cuts.specs.Split.{toSimplexes}
 
 -- refused by 21, whatever else is wrong
 abbrev pub badRecord : List ℕ → Outcome Answer (List ℕ)

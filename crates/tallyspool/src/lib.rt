@@ -7,7 +7,7 @@ ghost use Rattle.parts.specs.Subentities.{subentitiesOutcome};
 ghost use Rattle.parts.specs.declared.subentities.Codimension.the-variants.{Absent, Of};
 ghost use Rattle.recognise.specs.FromPoly.{fromPoly};
 ghost use Rattle.records.specs.Wire.{readOutcome, writeOutcome};
-ghost use Rattle.simplexes.specs.Split.{toSimplexes};
+ghost use Rattle.cuts.specs.Split.{toSimplexes};
 ghost use Rattle.winding.specs.Reorient.{reorientOutcome};
 ghost use Rattle.tallyspool.specs.Record.{splitRecord};
 use base::refusals::Answer;

@@ -7,7 +7,7 @@ ghost use Rattle.base.specs.Checks.{holdsSeparator};
 ghost use Rattle.base.specs.Kinds.{separator};
 ghost use Rattle.base.specs.Outcome.{Permits};
 ghost use Rattle.records.specs.Wire.{idsIn, numberAt};
-ghost use Rattle.simplexes.specs.Split.{splitRefusal, toSimplexes};
+ghost use Rattle.cuts.specs.Split.{splitRefusal, toSimplexes};
 ghost use Rattle.tallyspool.specs.Record.{splitRecord};
 use base::kinds::Kind;
 use base::kinds::is_kind;

@@ -2,7 +2,7 @@
 use borrow.Author.Needs.{needs}
 use mathlib.Core.Path.{_≡_, _∙_, ap}
 use Prim.Native.Nat.{_*_}
-use Rattle.simplexes.specs.Table.{hexPlace}
+use Rattle.cuts.specs.Table.{hexPlace}
 use Rattle.blocks.proofs.Parts.{part, part-long}
 use Rattle.blocks.proofs.row_at.Statement.{statement}
 use Rattle.blocks.proofs.row_at.Tie as tie

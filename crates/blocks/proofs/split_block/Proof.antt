@@ -8,7 +8,7 @@ use lib.Dec.{leb}
 use lib.ListN.{length}
 use Rattle.base.specs.Outcome.{refused, given}
 use Rattle.base.proofs.Settle.{settle-refuses, settle-short, settle-gives}
-use Rattle.simplexes.specs.Demand3.{splits}
+use Rattle.cuts.specs.Demand3.{splits}
 use Rattle.blocks.specs.Blocks.{cellsOf, counts, splitBlock, splitBlockRefusal}
 use Rattle.blocks.proofs.Parts.{Taken, taken, solid-is, four-each}
 use Rattle.blocks.proofs.split_block.Statement.{statement}

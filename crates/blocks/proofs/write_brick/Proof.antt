@@ -7,8 +7,8 @@ use lib.ListN.{take, drop, length-drop}
 use Rattle.base.specs.Kinds.{nodesOf}
 use Rattle.base.specs.Outcome.{overwrite}
 use Rattle.base.proofs.Lists.{rest-whole, rest-back}
-use Rattle.simplexes.specs.Split.{cut, split, splitCount, splitKind}
-use Rattle.simplexes.specs.Table.{hexPlace}
+use Rattle.cuts.specs.Split.{cut, split, splitCount, splitKind}
+use Rattle.cuts.specs.Table.{hexPlace}
 use Rattle.blocks.proofs.Parts.{part, part-long}
 use Rattle.blocks.proofs.write_brick.Statement.{statement}
 use Rattle.blocks.proofs.write_brick.Tie as tie

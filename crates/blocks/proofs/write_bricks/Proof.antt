@@ -9,9 +9,9 @@ use lib.ListN.{length, take, drop}
 use Rattle.base.specs.Kinds.{nodesOf}
 use Rattle.base.specs.Outcome.{overwrite}
 use Rattle.base.proofs.Lists.{length-overwrite}
-use Rattle.simplexes.specs.Split.{split}
-use Rattle.simplexes.specs.Demand3.{splits}
-use Rattle.simplexes.specs.Table.{hexPlace}
+use Rattle.cuts.specs.Split.{split}
+use Rattle.cuts.specs.Demand3.{splits}
+use Rattle.cuts.specs.Table.{hexPlace}
 use Rattle.blocks.specs.Blocks.{cells, counts}
 use Rattle.blocks.proofs.Parts.{brick-ids, bricks-ids, cellAt, next-room, next-fits, next-at, next-written, cell-left}
 use Rattle.blocks.proofs.write_bricks.Statement.{statement}

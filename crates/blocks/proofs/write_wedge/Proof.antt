@@ -7,7 +7,7 @@ use lib.ListN.{take, drop, length-drop}
 use Rattle.base.specs.Kinds.{nodesOf}
 use Rattle.base.specs.Outcome.{overwrite}
 use Rattle.base.proofs.Lists.{rest-whole, rest-back}
-use Rattle.simplexes.specs.Split.{cut, split, splitKind}
+use Rattle.cuts.specs.Split.{cut, split, splitKind}
 use Rattle.blocks.proofs.Parts.{part, part-long}
 use Rattle.blocks.proofs.write_wedge.Statement.{statement}
 use Rattle.blocks.proofs.write_wedge.Tie as tie

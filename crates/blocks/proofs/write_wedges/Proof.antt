@@ -8,8 +8,8 @@ use lib.ListN.{length}
 use Rattle.base.specs.Kinds.{nodesOf}
 use Rattle.base.specs.Outcome.{overwrite}
 use Rattle.base.proofs.Lists.{length-overwrite}
-use Rattle.simplexes.specs.Split.{split}
-use Rattle.simplexes.specs.Demand3.{splits}
+use Rattle.cuts.specs.Split.{split}
+use Rattle.cuts.specs.Demand3.{splits}
 use Rattle.blocks.specs.Blocks.{cells}
 use Rattle.blocks.proofs.Parts.{wedges-ids, cellAt, next-room, next-fits, next-written, cell-left}
 use Rattle.blocks.proofs.write_wedges.Statement.{statement}

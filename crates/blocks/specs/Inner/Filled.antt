@@ -3,7 +3,7 @@ use Prim.Native.Nat.{ℕ}
 use mathlib.Core.Path.{_≡_}
 use mathlib.Core.List.{List}
 use Rattle.base.specs.Outcome.{overwrite}
-use Rattle.simplexes.specs.Demand3.{Cell, splits}
+use Rattle.cuts.specs.Demand3.{Cell, splits}
 use Rattle.blocks.specs.Blocks.{counts}
 
 -- the tetrahedra of cells stand over the front of what out was, and count is their number

@@ -1,6 +1,6 @@
 -- `most_ids` meets its contract: a brick has at most six tetrahedra, any other cell at most three simplexes.
 use native.Mathlib.Omega.{arith}
-use Rattle.simplexes.proofs.Cuts.{split-most, split-few}
+use Rattle.cuts.proofs.Cuts.{split-most, split-few}
 use Rattle.simplexes.proofs.most_ids.Statement.{statement}
 use Rattle.simplexes.proofs.most_ids.Tie as tie
 

@@ -1,6 +1,6 @@
 -- `simplex_kind` meets its contract: the branches are the definition's.
 use borrow.Author.Tests.{le-leb, lt-leb}
-use Rattle.simplexes.specs.Split.{splitKind}
+use Rattle.cuts.specs.Split.{splitKind}
 use Rattle.simplexes.proofs.simplex_kind.Statement.{statement}
 use Rattle.simplexes.proofs.simplex_kind.Tie as tie
 

@@ -1,7 +1,8 @@
 -- `split_cell` meets its contract: 24 places hold any split, and the writer fills them from the front.
 use borrow.Author.Needs.{needs}
-use Rattle.simplexes.specs.Split.{split, splitCount, splitCell}
-use Rattle.simplexes.proofs.Cuts.{split-most}
+use Rattle.cuts.specs.Split.{split, splitCount}
+use Rattle.cuts.proofs.Cuts.{split-most}
+use Rattle.simplexes.specs.ByValue.{splitCell}
 use Rattle.simplexes.proofs.split_cell.Statement.{statement}
 use Rattle.simplexes.proofs.split_cell.Tie as tie
 

@@ -1,7 +1,7 @@
 -- `split_refusal` meets its contract: each return knows how the tests above it went.
 use borrow.Author.Needs.{needs}
 use borrow.Author.Tests.{eq-eqb, ne-eqb}
-use Rattle.simplexes.specs.Split.{splitRefusal}
+use Rattle.cuts.specs.Split.{splitRefusal}
 use Rattle.simplexes.proofs.split_refusal.Statement.{statement}
 use Rattle.simplexes.proofs.split_refusal.Tie as tie
 

@@ -7,9 +7,11 @@ use native.Mathlib.Omega.{arith}
 use lib.ListN.{length, take}
 use Rattle.base.specs.Outcome.{overwrite, refused, given}
 use Rattle.base.proofs.Settle.{settle-refuses, settle-short, settle-gives}
-use Rattle.simplexes.specs.Split.{split, splitCell, splitCount, splitRefusal, toSimplexes}
+use Rattle.cuts.specs.Split.{split, splitCount, splitRefusal, toSimplexes}
+use Rattle.cuts.proofs.Cuts.{split-most}
+use Rattle.simplexes.specs.ByValue.{splitCell}
 use Rattle.simplexes.specs.declared.Split.{Split}
-use Rattle.simplexes.proofs.Cuts.{cell-size, cell-front, split-most}
+use Rattle.simplexes.proofs.Written.{cell-size, cell-front}
 use Rattle.simplexes.proofs.to_simplexes.Statement.{statement}
 use Rattle.simplexes.proofs.to_simplexes.Tie as tie
 

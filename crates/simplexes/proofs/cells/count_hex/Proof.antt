@@ -4,8 +4,8 @@ use mathlib.Core.Path.{_∙_, ap}
 use mathlib.Core.List.{[]}
 use Prim.Native.Nat.{ℕ}
 use lib.ListN.{length}
-use Rattle.simplexes.specs.Rows.{branch, hexRows}
-use Rattle.simplexes.specs.Split.{cut, splitCount, hexCase}
+use Rattle.cuts.specs.Rows.{branch, hexRows}
+use Rattle.cuts.specs.Split.{cut, splitCount, hexCase}
 use Rattle.simplexes.proofs.cells.count_hex.Statement.{statement}
 use Rattle.simplexes.proofs.cells.count_hex.Tie as tie
 

@@ -3,9 +3,8 @@ use borrow.Author.Needs.{needs}
 use mathlib.Core.Path.{_≡_, _∙_, ap}
 use native.Mathlib.Omega.{arith}
 use lib.ListN.{length}
-use Rattle.simplexes.specs.Smallest.{firstDiagonal}
-use Rattle.simplexes.specs.Split.{quad}
-use Rattle.simplexes.proofs.Cuts.{quad-read}
+use Rattle.cuts.specs.Smallest.{firstDiagonal}
+use Rattle.simplexes.proofs.Laws.{quad-read}
 use Rattle.simplexes.proofs.cells.hex_case.Statement.{statement}
 use Rattle.simplexes.proofs.cells.hex_case.Tie as tie
 

@@ -1,8 +1,8 @@
 -- `cells::renumber` meets its contract: a brick of eight ids by the search of eight, any other as it comes.
 use borrow.Author.Needs.{needs}
-use mathlib.Core.Path.{_≡_, _∙_}
-use Rattle.simplexes.proofs.Strings.{turn-within}
-use Rattle.simplexes.proofs.Table.{turned}
+use mathlib.Core.Path.{_∙_}
+use Rattle.cuts.proofs.Strings.{turn-within}
+use Rattle.cuts.proofs.Table.{turned}
 use Rattle.simplexes.proofs.cells.renumber.Statement.{statement}
 use Rattle.simplexes.proofs.cells.renumber.Tie as tie
 

@@ -5,7 +5,7 @@ use Prim.Native.Nat.{ℕ}
 use lib.ListN.{length}
 use Rattle.base.specs.Gather.{pick, digits, undigit}
 use Rattle.base.proofs.Picks.{length-undigit}
-use Rattle.simplexes.specs.Rows.{branch, renumberings}
+use Rattle.cuts.specs.Rows.{branch, renumberings}
 use Rattle.simplexes.proofs.Laws.{fills}
 use Rattle.simplexes.proofs.cells.renumber_any.Statement.{statement}
 use Rattle.simplexes.proofs.cells.renumber_any.Tie as tie

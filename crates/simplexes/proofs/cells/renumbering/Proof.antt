@@ -5,8 +5,8 @@ use Prim.Native.Nat.{ℕ, min}
 use native.Mathlib.Omega.{arith}
 use lib.ListN.{getD}
 use Rattle.base.specs.Gather.{digits}
-use Rattle.simplexes.specs.Rows.{renumberings}
-use Rattle.simplexes.proofs.Strings.{turn-string}
+use Rattle.cuts.specs.Rows.{renumberings}
+use Rattle.cuts.proofs.Strings.{turn-string}
 use Rattle.simplexes.proofs.cells.renumbering.Statement.{statement}
 use Rattle.simplexes.proofs.cells.renumbering.Tie as tie
 

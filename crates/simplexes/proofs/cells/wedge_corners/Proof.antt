@@ -1,8 +1,8 @@
 -- `cells::wedge_corners` meets its contract: the place of the smallest and the diagonal that is left choose the row.
 use borrow.Author.Needs.{needs}
-use mathlib.Core.Path.{_≡_, sym, _∙_, ap}
+use mathlib.Core.Path.{sym, _∙_, ap}
 use Prim.Native.Nat.{ℕ, min}
-use Rattle.simplexes.proofs.Cuts.{wedge-row}
+use Rattle.cuts.proofs.Cuts.{wedge-row}
 use Rattle.simplexes.proofs.cells.wedge_corners.Statement.{statement}
 use Rattle.simplexes.proofs.cells.wedge_corners.Tie as tie
 

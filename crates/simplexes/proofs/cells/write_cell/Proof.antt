@@ -3,9 +3,9 @@ use borrow.Author.Needs.{needs}
 use mathlib.Core.Path.{refl}
 use mathlib.Core.List.{[], _∷_}
 use native.Mathlib.Omega.{arith}
-use Rattle.simplexes.specs.Rows.{tetRows}
-use Rattle.simplexes.specs.Split.{wedgeCut, hexCut}
-use Rattle.simplexes.proofs.Cuts.{row-room, row-written, none-written, written-is, split-is, poly-is, hex-is, wedge-is, tet-is}
+use Rattle.cuts.specs.Rows.{tetRows}
+use Rattle.cuts.specs.Split.{wedgeCut, hexCut}
+use Rattle.simplexes.proofs.Written.{row-room, row-written, none-written, written-is, split-is, poly-is, hex-is, wedge-is, tet-is}
 use Rattle.simplexes.proofs.cells.write_cell.Statement.{statement}
 use Rattle.simplexes.proofs.cells.write_cell.Tie as tie
 

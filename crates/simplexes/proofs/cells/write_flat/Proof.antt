@@ -4,9 +4,10 @@ use mathlib.Core.Path.{refl, sym}
 use mathlib.Core.List.{[], _∷_}
 use native.Mathlib.Omega.{arith}
 use lib.Dec.{eqb}
-use Rattle.simplexes.specs.Smallest.{smallestPos, firstDiagonal}
-use Rattle.simplexes.specs.Rows.{vertexRows, segRows, triRows, quadRows}
-use Rattle.simplexes.proofs.Cuts.{row-room, row-written, none-written, quad-is, tri-is, seg-is, vertex-is, none-is, two-rows, one-row}
+use Rattle.cuts.specs.Smallest.{smallestPos, firstDiagonal}
+use Rattle.cuts.specs.Rows.{vertexRows, segRows, triRows, quadRows}
+use Rattle.cuts.proofs.Cuts.{two-rows, one-row}
+use Rattle.simplexes.proofs.Written.{row-room, row-written, none-written, quad-is, tri-is, seg-is, vertex-is, none-is}
 use Rattle.simplexes.proofs.cells.write_flat.Statement.{statement}
 use Rattle.simplexes.proofs.cells.write_flat.Tie as tie
 

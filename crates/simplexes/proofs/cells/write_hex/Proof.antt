@@ -7,9 +7,9 @@ use native.Mathlib.Omega.{arith}
 use lib.ListN.{length, take}
 use Rattle.base.specs.Gather.{pick, corners, undigit}
 use Rattle.base.specs.Outcome.{overwrite}
-use Rattle.simplexes.specs.Split.{hexCase, hexCut}
-use Rattle.simplexes.proofs.Cuts.{hex-row, length-simplexes, picked}
-use Rattle.simplexes.proofs.Strings.{case-within}
+use Rattle.cuts.specs.Split.{hexCase, hexCut}
+use Rattle.cuts.proofs.Cuts.{hex-row, length-simplexes, picked}
+use Rattle.cuts.proofs.Strings.{case-within}
 use Rattle.simplexes.proofs.cells.write_hex.Statement.{statement}
 use Rattle.simplexes.proofs.cells.write_hex.Tie as tie
 

@@ -1,8 +1,9 @@
 -- `cells::write_wedge` meets its contract: a wedge of six ids by its row of the table, any other by its corners.
 use borrow.Author.Needs.{needs}
-use mathlib.Core.Path.{_≡_, sym}
-use Rattle.simplexes.specs.Split.{wedgeCut}
-use Rattle.simplexes.proofs.Cuts.{room, gathered, three-rows}
+use mathlib.Core.Path.{sym}
+use Rattle.cuts.specs.Split.{wedgeCut}
+use Rattle.cuts.proofs.Cuts.{three-rows}
+use Rattle.simplexes.proofs.Written.{room, gathered}
 use Rattle.simplexes.proofs.cells.write_wedge.Statement.{statement}
 use Rattle.simplexes.proofs.cells.write_wedge.Tie as tie
 

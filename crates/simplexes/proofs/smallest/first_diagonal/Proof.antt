@@ -4,7 +4,7 @@ use mathlib.Core.Path.{_≡_, _∙_, ap}
 use lib.ListN.{length}
 use Rattle.base.specs.Gather.{pick, undigit}
 use Rattle.base.proofs.Picks.{length-undigit}
-use Rattle.simplexes.specs.Smallest.{firstDiagonal}
+use Rattle.cuts.specs.Smallest.{firstDiagonal}
 use Rattle.simplexes.proofs.Laws.{fills, four-are}
 use Rattle.simplexes.proofs.smallest.first_diagonal.Statement.{statement}
 use Rattle.simplexes.proofs.smallest.first_diagonal.Tie as tie

@@ -1,7 +1,7 @@
 -- `smallest::least_of_two` meets its contract: it is the lesser of the two entries.
 use borrow.Author.Needs.{needs}
 use mathlib.Core.Path.{_∙_, ap₂}
-use Rattle.simplexes.specs.Smallest.{lesserOf}
+use Rattle.simplexes.specs.Inner.Lesser.{lesserOf}
 use Rattle.simplexes.proofs.smallest.least_of_two.Statement.{statement}
 use Rattle.simplexes.proofs.smallest.least_of_two.Tie as tie
 

@@ -1,6 +1,6 @@
 -- `smallest::lesser` meets its contract: the second only where it is below the first.
 use borrow.Author.Tests.{lt-ltb, le-ltb}
-use Rattle.simplexes.specs.Smallest.{lesserOf}
+use Rattle.simplexes.specs.Inner.Lesser.{lesserOf}
 use Rattle.simplexes.proofs.smallest.lesser.Statement.{statement}
 use Rattle.simplexes.proofs.smallest.lesser.Tie as tie
 

@@ -1,5 +1,5 @@
 -- `smallest::on_first` meets its contract: the four comparisons decide the place of the smallest.
-use Rattle.simplexes.proofs.Least.{by-comparisons}
+use Rattle.cuts.proofs.Least.{by-comparisons}
 use Rattle.simplexes.proofs.smallest.on_first.Statement.{statement}
 use Rattle.simplexes.proofs.smallest.on_first.Tie as tie
 

@@ -8,7 +8,7 @@ use native.Mathlib.Omega.{arith}
 use lib.ListN.{length, getD}
 use Rattle.base.specs.Kinds.{separator}
 use Rattle.base.proofs.Picks.{within-default}
-use Rattle.simplexes.proofs.Least.{Scanned, scan-start, scan-new, scan-keep, scan-end}
+use Rattle.simplexes.proofs.Scan.{Scanned, scan-start, scan-new, scan-keep, scan-end}
 use Rattle.simplexes.proofs.smallest.smallest.Statement.{statement}
 use Rattle.simplexes.proofs.smallest.smallest.Tie as tie
 

@@ -1,8 +1,8 @@
 -- `smallest::smallest_of_eight` meets its contract: the lesser of two fours is the smallest of eight.
 use borrow.Author.Needs.{needs}
 use mathlib.Core.Path.{_∙_, ap₂}
-use Rattle.simplexes.specs.Smallest.{lesserOf}
-use Rattle.simplexes.proofs.Least.{eight-smallest}
+use Rattle.simplexes.specs.Inner.Lesser.{lesserOf}
+use Rattle.simplexes.proofs.Scan.{eight-smallest}
 use Rattle.simplexes.proofs.smallest.smallest_of_eight.Statement.{statement}
 use Rattle.simplexes.proofs.smallest.smallest_of_eight.Tie as tie
 

@@ -1,8 +1,8 @@
 -- `smallest::smallest_of_six` meets its contract: the lesser of four and two is the smallest of six.
 use borrow.Author.Needs.{needs}
 use mathlib.Core.Path.{_∙_, ap₂}
-use Rattle.simplexes.specs.Smallest.{lesserOf}
-use Rattle.simplexes.proofs.Least.{six-smallest}
+use Rattle.simplexes.specs.Inner.Lesser.{lesserOf}
+use Rattle.simplexes.proofs.Scan.{six-smallest}
 use Rattle.simplexes.proofs.smallest.smallest_of_six.Statement.{statement}
 use Rattle.simplexes.proofs.smallest.smallest_of_six.Tie as tie
 

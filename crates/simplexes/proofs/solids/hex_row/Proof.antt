@@ -1,17 +1,11 @@
 -- `solids::hex_row` meets its contract: eight rows for each place of the smallest, in the order of the cases.
 use borrow.Author.Needs.{needs}
-use mathlib.Core.Path.{_≡_, _∙_, ap}
-use mathlib.Core.List.{List, []}
-use Prim.Native.Nat.{ℕ, _*_, _+_, _<_, min}
+use mathlib.Core.Path.{_∙_, ap}
 use native.Mathlib.Omega.{arith}
-use lib.ListN.{length, getD}
-use Rattle.base.specs.Gather.{pick, digits, undigit}
-use Rattle.simplexes.specs.Smallest.{smallestPos}
-use Rattle.simplexes.specs.Rows.{renumberings}
-use Rattle.simplexes.specs.Split.{hexCase, renumbered}
-use Rattle.simplexes.specs.Table.{hexPlace}
-use Rattle.simplexes.proofs.Strings.{turn-within}
-use Rattle.simplexes.proofs.Table.{turned, place-is}
+use Rattle.cuts.specs.Rows.{renumberings}
+use Rattle.cuts.specs.Split.{hexCase}
+use Rattle.cuts.proofs.Strings.{turn-within}
+use Rattle.cuts.proofs.Table.{turned, place-is}
 use Rattle.simplexes.proofs.solids.hex_row.Statement.{statement}
 use Rattle.simplexes.proofs.solids.hex_row.Tie as tie
 

@@ -4,9 +4,8 @@ use mathlib.Core.Path.{_≡_, _∙_, ap}
 use lib.ListN.{length}
 use Rattle.base.specs.Gather.{pick, undigit}
 use Rattle.base.proofs.Picks.{length-undigit}
-use Rattle.simplexes.specs.Smallest.{firstDiagonal}
-use Rattle.simplexes.proofs.Laws.{four-are}
-use Rattle.simplexes.proofs.Strings.{put-fills}
+use Rattle.cuts.specs.Smallest.{firstDiagonal}
+use Rattle.simplexes.proofs.Laws.{four-are, put-fills}
 use Rattle.simplexes.proofs.solids.quad_first.Statement.{statement}
 use Rattle.simplexes.proofs.solids.quad_first.Tie as tie
 

@@ -1,10 +1,8 @@
 -- `solids::renumber` meets its contract: the eight ids that are put fill the cell.
 use borrow.Author.Needs.{needs}
 use mathlib.Core.Path.{_≡_, _∙_}
-use native.Mathlib.Omega.{arith}
 use lib.ListN.{length}
-use Rattle.base.proofs.Picks.{length-undigit}
-use Rattle.simplexes.proofs.Strings.{put-fills}
+use Rattle.simplexes.proofs.Laws.{put-fills}
 use Rattle.simplexes.proofs.solids.renumber.Statement.{statement}
 use Rattle.simplexes.proofs.solids.renumber.Tie as tie
 

@@ -1,9 +1,8 @@
 -- `solids::wedge_row` meets its contract: a row for each place of the smallest, and six further on for the second diagonal.
 use borrow.Author.Needs.{needs}
-use mathlib.Core.Path.{_≡_, _∙_, ap}
 use native.Mathlib.Omega.{arith}
-use Rattle.simplexes.proofs.Strings.{quad-within}
-use Rattle.simplexes.proofs.Table.{wedge-place-is}
+use Rattle.cuts.proofs.Strings.{quad-within}
+use Rattle.cuts.proofs.Table.{wedge-place-is}
 use Rattle.simplexes.proofs.solids.wedge_row.Statement.{statement}
 use Rattle.simplexes.proofs.solids.wedge_row.Tie as tie
 

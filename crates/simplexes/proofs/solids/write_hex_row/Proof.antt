@@ -1,15 +1,15 @@
 -- `solids::write_hex_row` meets its contract: the ids at the corners of the brick's row are those of the two steps.
 use borrow.Author.Needs.{needs}
-use mathlib.Core.Path.{_≡_, _∙_, ap}
+use mathlib.Core.Path.{_∙_, ap}
 use mathlib.Core.List.{List, []}
-use Prim.Native.Nat.{ℕ, _*_, _<_}
+use Prim.Native.Nat.{ℕ, _<_}
 use native.Mathlib.Omega.{arith}
-use lib.ListN.{length, getD}
+use lib.ListN.{getD}
 use Rattle.base.specs.Outcome.{overwrite}
-use Rattle.simplexes.specs.Split.{hexCut}
-use Rattle.simplexes.proofs.Cuts.{length-simplexes}
-use Rattle.simplexes.proofs.Strings.{hex-within}
-use Rattle.simplexes.proofs.Table.{RowIs, row-is, place-few}
+use Rattle.cuts.specs.Split.{hexCut}
+use Rattle.cuts.proofs.Cuts.{length-simplexes}
+use Rattle.cuts.proofs.Strings.{hex-within}
+use Rattle.cuts.proofs.Table.{RowIs, row-is, place-few}
 use Rattle.simplexes.proofs.solids.write_hex_row.Statement.{statement}
 use Rattle.simplexes.proofs.solids.write_hex_row.Tie as tie
 

@@ -1,15 +1,15 @@
 -- `solids::write_wedge_row` meets its contract: the ids at the corners of the wedge's row are its three tetrahedra.
 use borrow.Author.Needs.{needs}
-use mathlib.Core.Path.{_≡_, _∙_, ap}
+use mathlib.Core.Path.{_∙_, ap}
 use mathlib.Core.List.{List, []}
 use Prim.Native.Nat.{ℕ, _<_}
 use native.Mathlib.Omega.{arith}
-use lib.ListN.{length, getD}
+use lib.ListN.{getD}
 use Rattle.base.specs.Outcome.{overwrite}
-use Rattle.simplexes.specs.Split.{wedgeCut}
-use Rattle.simplexes.proofs.Cuts.{length-simplexes, three-rows}
-use Rattle.simplexes.proofs.Strings.{wedge-within}
-use Rattle.simplexes.proofs.Table.{wedge-picked, wedge-place-few}
+use Rattle.cuts.specs.Split.{wedgeCut}
+use Rattle.cuts.proofs.Cuts.{length-simplexes, three-rows}
+use Rattle.cuts.proofs.Strings.{wedge-within}
+use Rattle.cuts.proofs.Table.{wedge-picked, wedge-place-few}
 use Rattle.simplexes.proofs.solids.write_wedge_row.Statement.{statement}
 use Rattle.simplexes.proofs.solids.write_wedge_row.Tie as tie
 

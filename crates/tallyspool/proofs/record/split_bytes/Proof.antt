@@ -8,7 +8,7 @@ use Rattle.base.specs.Outcome.{refused}
 use Rattle.base.proofs.Settle.{settle-refuses}
 use Rattle.records.specs.Wire.{idsIn}
 use Rattle.records.proofs.Bytes.{read-count, read-front}
-use Rattle.simplexes.specs.Split.{splitRefusal, toSimplexes}
+use Rattle.cuts.specs.Split.{splitRefusal, toSimplexes}
 use Rattle.tallyspool.proofs.record.split_bytes.Statement.{statement}
 use Rattle.tallyspool.proofs.record.split_bytes.Tie as tie
 

@@ -1,9 +1,0 @@
--- `tables::renumberings` meets its contract: the strings are the rows of the specs, digit by digit.
-use mathlib.Core.Path.{refl}
-use Rattle.simplexes.specs.Strings.{turnStrings}
-use Rattle.simplexes.proofs.tables.renumberings.Statement.{statement}
-use Rattle.simplexes.proofs.tables.renumberings.Tie as tie
-
-pub renumberings-spec : {M : Type 1} → statement M
-unfolding turnStrings
-renumberings-spec = tie.close (tie.spec (λ c. refl))

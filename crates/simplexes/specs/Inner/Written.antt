@@ -1,0 +1,16 @@
+-- What a writer leaves in what it is lent, and how much room it needs at most.
+use Prim.Native.Nat.{ℕ, _≤_}
+use mathlib.Core.Path.{_≡_}
+use mathlib.Core.List.{List}
+use lib.ListN.{length}
+use Rattle.base.specs.Outcome.{overwrite}
+use Rattle.cuts.specs.Split.{Cut, simplexes, split}
+
+-- a cut's simplexes of n nodes stand over the front of what out was, and count is their number
+pub record Written (n : ℕ) (c : Cut) (out : List ℕ) (count : ℕ) (lent : List ℕ) : Type 0 where
+  pub counted : count ≡ length (c .rows)
+  pub written : lent ≡ overwrite (simplexes n c) out
+
+-- the simplexes of every list of ids take at most so many entries
+abbrev pub AtMost : ℕ → ℕ → Type 0
+AtMost kind most = (ids : List ℕ) → length (split kind ids) ≤ most
