@@ -7,7 +7,6 @@ use native.Mathlib.Nat.{zero-mul, suc-mul, add-comm, mul-le-mul}
 use native.Mathlib.Omega.{arith}
 use lib.Dec.{eqb, leb, eqb→eq, leb→le}
 use lib.ListN.{length, getD, take, length-append}
-use borrow.Author.Tests.{lt-leb}
 use Rattle.base.specs.Kinds.{nodesOf}
 use Rattle.base.specs.Gather.{pick, digits, corners, undigit}
 use Rattle.base.proofs.Picks.{length-pick}
@@ -112,19 +111,6 @@ rows-most kind ids =
     (either few (leb 2 kind) (omega (arith, one-row (eqb (smallestPos ids) 0)))
     (either few (leb 1 kind) (omega arith) (omega arith))))))))
 
-rows-few : (kind : ℕ) (ids : List ℕ) → kind < 15 → length (cut kind ids .rows) ≤ 3
-unfolding cut
-rows-few kind ids h =
-    let few : Cut → Type 0 = λ c. length (c .rows) ≤ 3 in
-    rw (lt-leb 15 kind h)
-    (either few (leb 17 kind) (omega arith)
-    (either few (leb 13 kind) (omega (arith, three-rows ids))
-    (either few (leb 11 kind) (omega arith)
-    (either few (leb 8 kind) (omega (arith, two-rows (firstDiagonal ids)))
-    (either few (leb 5 kind) (omega arith)
-    (either few (leb 2 kind) (omega (arith, one-row (eqb (smallestPos ids) 0)))
-    (either few (leb 1 kind) (omega arith) (omega arith))))))))
-
 pub nodes-most : (kind : ℕ) → nodesOf (splitKind kind) ≤ 4
 unfolding splitKind nodesOf
 nodes-most kind =
@@ -145,8 +131,3 @@ pub split-most : (kind : ℕ) (ids : List ℕ) → length (split kind ids) ≤ 2
 unfolding splitCount
 split-most kind ids =
     rw (split-length kind ids) (mul-le-mul (rows-most kind ids) (nodes-most kind))
-
--- or 12, of any kind but the bricks'
-pub split-few : (kind : ℕ) → kind < 15 → (ids : List ℕ) → length (split kind ids) ≤ 12
-unfolding splitCount
-split-few kind h ids = rw (split-length kind ids) (mul-le-mul (rows-few kind ids h) (nodes-most kind))

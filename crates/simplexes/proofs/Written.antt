@@ -1,24 +1,21 @@
--- Which cut a kind has, that gathering by its rows writes its simplexes, and how long a split by value is.
-use mathlib.Core.Path.{_≡_, refl, sym, _∙_, ap}
+-- Which cut a kind has, how long its split is, and that gathering by its rows writes its simplexes.
+use mathlib.Core.Path.{_≡_, refl, _∙_, ap}
 use mathlib.Core.Bool.{cond}
 use mathlib.Core.List.{List, []}
 use Prim.Native.Nat.{ℕ, _-_, _*_, _≤_, _<_}
 use native.Mathlib.Omega.{arith}
 use lib.Dec.{eqb, leb}
-use lib.ListN.{length, take, replicate, length-map}
+use lib.ListN.{length, length-map}
 use borrow.Author.Tests.{le-leb, lt-leb}
 use Rattle.base.specs.Kinds.{nodesOf}
 use Rattle.base.specs.Gather.{pick, corners, undigit}
 use Rattle.base.specs.Outcome.{overwrite}
-use Rattle.base.proofs.Lists.{overwrite-front}
 use Rattle.base.proofs.Picks.{length-pick}
 use Rattle.cuts.specs.Smallest.{smallestPos, firstDiagonal}
 use Rattle.cuts.specs.Rows.{vertexRows, segRows, triRows, quadRows, tetRows}
 use Rattle.cuts.specs.Split.{Cut, by, cut, split, splitKind, simplexes, wedgeCut, hexCut}
-use Rattle.cuts.proofs.Cuts.{split-length}
-use Rattle.simplexes.specs.ByValue.{splitCell}
+use Rattle.cuts.proofs.Cuts.{length-simplexes}
 use Rattle.simplexes.specs.Inner.Written.{Written}
-use Rattle.simplexes.specs.declared.Split.{Split}
 
 module _ (n : ℕ) (c : Cut) (row out : List ℕ) (e : undigit row ≡ corners n (c .rows)) where
   -- a row of digits has room where its simplexes have
@@ -31,16 +28,6 @@ module _ (n : ℕ) (c : Cut) (row out : List ℕ) (e : undigit row ≡ corners n
   unfolding simplexes
   gathered lent count k w = record { counted = k; written = w ∙ ap (λ (r : List ℕ). overwrite (pick (c .ids) r) out) e }
 
--- a split by value: its count and kind say how many of its ids are the simplexes'
-module _ (kind : ℕ) (ids : List ℕ) (s : Split) (nodes : ℕ) (e : s ≡ splitCell kind ids) (m : nodes ≡ nodesOf (s .kind)) where
-  pub cell-size : s .count * nodes ≡ length (split kind ids)
-  unfolding splitCell
-  cell-size = rw (m, e) (sym (split-length kind ids))
-
-  pub cell-front : take (s .count * nodes) (s .ids) ≡ split kind ids
-  unfolding splitCell
-  cell-front = rw (cell-size, e) (overwrite-front (split kind ids) (replicate 24 0))
-
 -- cells of this kind are cut by c into simplexes of n nodes
 pub record IsCut (kind : ℕ) (ids : List ℕ) (n : ℕ) (c : Cut) : Type 0 where
   pub nodes : nodesOf (splitKind kind) ≡ n
@@ -50,6 +37,9 @@ module _ (kind : ℕ) (ids : List ℕ) (n : ℕ) (c : Cut) (is : IsCut kind ids 
   pub split-is : split kind ids ≡ simplexes n c
   unfolding split
   split-is = rw (is .nodes, is .cuts)
+
+  pub split-size : (rows : ℕ) → length (c .rows) ≡ rows → length (split kind ids) ≡ rows * n
+  split-size rows e = ap length split-is ∙ length-simplexes n c ∙ ap (λ (k : ℕ). k * n) e
 
   pub written-is : (out lent : List ℕ) (count : ℕ) → Written n c out count lent
       → Written (nodesOf (splitKind kind)) (cut kind ids) out count lent

@@ -61,7 +61,7 @@ fn write_hex(ids: &[u64], out: &mut [u64]) -> u64
 pub fn count_hex(ids: &[u64]) -> u64
     ensures { λ r. ⌜ (r ≡ splitCount 15 (now (ids .entry))) × (r ≤ 6) ⌝ }
 {
-    tables::case_count(hex_case(renumber(ids)))
+    tables::case_count(hex_case(renumber_any(ids)))
 }
 
 // The ids of a brick, renumbered by the place of its smallest.

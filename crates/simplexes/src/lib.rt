@@ -1,15 +1,16 @@
 // The split of one cell into simplexes.
 ghost use mathlib.Core.Path.{_≡_};
+ghost use lib.Dec.{leb};
+ghost use lib.ListN.{length};
 ghost use Rattle.base.specs.Outcome.{Permits};
-ghost use Rattle.cuts.specs.Split.{splitKind, splitRefusal, toSimplexes};
+ghost use Rattle.cuts.specs.Split.{split, splitKind, splitRefusal, toSimplexes};
 ghost use Rattle.simplexes.specs.ByValue.{splitCell};
-ghost use Rattle.simplexes.specs.Inner.Written.{AtMost};
+ghost use Rattle.simplexes.specs.Inner.Written.{Takes};
 use base::checks::element_refusal;
 use base::kinds::Kind;
-use base::kinds::node_count;
-use base::lent::copy;
 use base::refusals::Answer;
 use base::refusals::Refusal;
+use cells::count_hex;
 use cells::write_cell;
 
 pub mod cells;
@@ -33,29 +34,54 @@ pub fn to_simplexes(kind: u64, ids: &[u64], out: &mut [u64]) -> Answer
     if refusal != 0 {
         return Answer::refused(refusal);
     }
-    if most_ids(kind) <= out.len() {
+    if has_room(kind, ids, out.len()) {
         let count = write_cell(kind, ids, out);
         return Answer::given(simplex_kind(kind), count);
     }
-    let split = split_cell(kind, ids);
-    let simplexes = split.ids;
-    let n = split.count as usize * node_count(split.kind);
-    if out.len() < n {
-        return Answer::refused(Refusal::SHORT_OUTPUT);
-    }
-    copy(&simplexes[..n], out);
-    Answer::given(split.kind, split.count)
+    Answer::refused(Refusal::SHORT_OUTPUT)
 }
 
-// As many ids as the simplexes of one cell take at most. Where they find room they are written in place;
-// else the split is made aside, so that a brick of five is told from one of six before anything is written.
+// Whether the simplexes of a cell that is not refused find room. A brick has five or six tetrahedra, so it
+// is looked at only where six do not fit.
+fn has_room(kind: u64, ids: &[u64], room: usize) -> bool
+    requires { ⌜ splitRefusal kind (now ids) ≡ 0 ⌝ }
+    ensures { λ r. ⌜ r ≡ leb (length (split kind (now (ids .entry)))) room ⌝ }
+{
+    if most_ids(kind) <= room {
+        return true;
+    }
+    if kind < Kind::HEX8 {
+        return false;
+    }
+    count_hex(ids) as usize * Kind::TET4_NODES <= room
+}
+
+// How many ids the simplexes of one cell take, those of a brick at most.
 fn most_ids(kind: u64) -> usize
-    ensures { λ r. ⌜ AtMost kind r ⌝ }
+    ensures { λ r. ⌜ Takes kind r ⌝ }
 {
     if Kind::HEX8 <= kind {
         return 24;
     }
-    12
+    if Kind::WEDGE6 <= kind {
+        return 12;
+    }
+    if Kind::TET4 <= kind {
+        return 4;
+    }
+    if Kind::QUAD4 <= kind {
+        return 6;
+    }
+    if Kind::TRI3 <= kind {
+        return 3;
+    }
+    if Kind::SEG2 <= kind {
+        return 2;
+    }
+    if Kind::VERTEX <= kind {
+        return 1;
+    }
+    0
 }
 
 // The split of one cell by value. An id that the kind wants and the list lacks is the separator.

@@ -1,5 +1,5 @@
--- What a writer leaves in what it is lent, and how much room it needs at most.
-use Prim.Native.Nat.{ℕ, _≤_}
+-- What a writer leaves in what it is lent, and how much room it takes.
+use Prim.Native.Nat.{ℕ, _<_, _≤_}
 use mathlib.Core.Path.{_≡_}
 use mathlib.Core.List.{List}
 use lib.ListN.{length}
@@ -11,6 +11,6 @@ pub record Written (n : ℕ) (c : Cut) (out : List ℕ) (count : ℕ) (lent : Li
   pub counted : count ≡ length (c .rows)
   pub written : lent ≡ overwrite (simplexes n c) out
 
--- the simplexes of every list of ids take at most so many entries
-abbrev pub AtMost : ℕ → ℕ → Type 0
-AtMost kind most = (ids : List ℕ) → length (split kind ids) ≤ most
+-- the simplexes of every list of ids take so many entries, of a brick at most
+abbrev pub Takes : ℕ → ℕ → Type 0
+Takes kind most = (ids : List ℕ) → (length (split kind ids) ≤ most) × (kind < 15 → length (split kind ids) ≡ most)

@@ -12,7 +12,7 @@ use Rattle.simplexes.proofs.cells.count_hex.Tie as tie
 returns : tie.Need-returns
 unfolding splitCount cut
 returns c =
-    let case = c .before .hex-case .ensures .0 ∙ ap hexCase (c .before .before .renumber .ensures) in
+    let case = c .before .hex-case .ensures .0 ∙ ap hexCase (c .before .before .renumber-any .ensures) in
     (c .case-count .ensures .0 ∙ ap (λ (k : ℕ). length (branch hexRows [] k)) case, c .case-count .ensures .1)
 
 pub count-hex-spec : {M : Type 1} → statement M
