@@ -2,3 +2,4 @@
 pub mod Long
 pub mod Agree
 mod Examples
+mod PExamples
