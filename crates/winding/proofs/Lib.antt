@@ -4,6 +4,7 @@ pub mod Round
 pub mod Turned
 pub mod Parts
 pub mod Rising
+pub mod Inserted
 pub mod Joined
 pub mod Written
 pub mod Passed

@@ -16,6 +16,7 @@ mod cycle;
 mod plane;
 mod point;
 mod reference;
+mod sorted;
 mod space;
 mod write;
 
