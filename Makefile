@@ -1,15 +1,16 @@
-# make          prove and build all
-# make test     the whole test; its last line is 'N passed, 0 failed' only if all of it passed
-# make demo     cut the sample door and say what came out
-# make compare  compare every operation with the Rust that is ported, two million calls each
-# make bench    time every operation beside the Rust; with KEEP=1 the tables go into docs/BENCH.md too
-# make vectors  make the stored answers of the Rust anew, which `replay` replays
-# make fmt      lay out every Rattle file
-# make clean    remove what was built
+# make              prove and build all
+# make test         the whole test; its last line is 'N passed, 0 failed' only if all of it passed
+# make demo         cut the sample door and say what came out
+# make compare      compare every operation with the Rust that is ported, two million calls each
+# make bench        time every operation beside the Rust; with KEEP=1 the tables go into docs/BENCH.md too
+# make instructions count the instructions of each operation, on any processor
+# make vectors      make the stored answers of the Rust anew, which `replay` replays
+# make fmt          lay out every Rattle file
+# make clean        remove what was built
 
 KIT := rattle-kit-5b logic 064da1ca440f63e7
 
-.PHONY: all test demo compare bench vectors fmt clean kit
+.PHONY: all test demo compare bench instructions vectors fmt clean kit
 
 all: kit
 	@rt check
@@ -28,6 +29,9 @@ compare: all
 
 bench: all
 	@host/bench/run $(if $(KEEP),--keep)
+
+instructions: all
+	@host/instructions/run
 
 vectors: all
 	@host/compare/vectors

@@ -9,6 +9,7 @@ ghost use Rattle.base.specs.Outcome.{Permits};
 ghost use Rattle.records.specs.Wire.{idsIn, numberAt};
 ghost use Rattle.cuts.specs.Split.{splitRefusal, toSimplexes};
 ghost use Rattle.tallyspool.specs.Record.{splitRecord};
+use super::ts_to_simplexes;
 use base::kinds::Kind;
 use base::kinds::is_kind;
 use base::refusals::Answer;
@@ -18,7 +19,6 @@ use records::frame::frame_at;
 use records::wire::Wire;
 use records::wire::four_at;
 use records::wire::read_ids;
-use simplexes::to_simplexes;
 
 // The simplexes of a record's cell over the front of out. It refuses with 21 unless the bytes are
 // one whole record, and else as `to_simplexes`.
@@ -46,7 +46,8 @@ pub fn split_record(bytes: &[u8], out: &mut [u64]) -> Answer
 }
 
 // The same from the kind and the bytes of the ids. No kind that has a rule has more nodes than a
-// HEX21, so that more ids than that need no room: they are refused where they lie.
+// HEX21, so that more ids than that need no room: they are refused where they lie. The export is called,
+// so that the operation behind it has one caller only, into which the compiler takes it.
 fn split_bytes(kind: u64, bytes: &[u8], out: &mut [u64]) -> Answer
     requires { ⌜ (length (now bytes) % 8 ≡ 0) × (length (now bytes) ≤ 32768) ⌝ }
     ensures { λ r. ⌜ Permits (toSimplexes kind (idsIn (length (now (bytes .entry)) / 8) (now (bytes .entry))) (now (out .entry))) r (now (out .exit)) ⌝ }
@@ -57,7 +58,7 @@ fn split_bytes(kind: u64, bytes: &[u8], out: &mut [u64]) -> Answer
     }
     let mut ids = [0u64; Kind::HEX21_NODES];
     read_ids(bytes, &mut ids);
-    to_simplexes(kind, &ids[0..count], out)
+    ts_to_simplexes(kind, &ids[0..count], out)
 }
 
 // The first refusal that more ids than any fixed kind has meet: there is always one.

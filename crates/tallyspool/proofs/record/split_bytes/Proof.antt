@@ -35,7 +35,7 @@ front r =
 returns-2 : tie.Need-returns-2
 returns-2 c =
     let t = c .before .before in
-    rw (sub-zero, front (t .before .before .before .before .before)) at (t .to-simplexes .ensures)
+    rw (sub-zero, front (t .before .before .before .before .before)) at (t .ts-to-simplexes .ensures)
 
 pub split-bytes-spec : {M : Type 1} → statement M
 split-bytes-spec =
