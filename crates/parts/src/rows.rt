@@ -30,14 +30,12 @@ pub fn table_parts(kind: u64, codim: u64, ids: &[u64], out: &mut [u64]) -> Parts
     }
 }
 
-// Codimension 1: the ends of a segment, the sides of a face, the faces of a cell.
+// Codimension 1: the ends of a segment, the sides of a face, the faces of a cell. The other kinds have none.
 fn first_parts(kind: u64, ids: &[u64], out: &mut [u64]) -> Parts
     requires { ⌜ elementRefusal kind (now ids) ≡ 0 ⌝ }
     ensures { λ r. ⌜ Permits (toFirst (tableParts kind 1 (now (ids .entry))) (now (out .entry))) r (now (out .exit)) ⌝ }
 {
     match kind {
-        0 => given(0, 0),
-        Kind::VERTEX => given(0, 0),
         Kind::SEG2 => of_kind(Kind::VERTEX, 2, ids, b"01", out),
         Kind::SEG3 => of_kind(Kind::VERTEX, 2, ids, b"01", out),
         Kind::SEG4 => of_kind(Kind::VERTEX, 2, ids, b"01", out),
@@ -45,12 +43,8 @@ fn first_parts(kind: u64, ids: &[u64], out: &mut [u64]) -> Parts
         Kind::TRI6 => of_kind(Kind::SEG3, 3, ids, b"013124205", out),
         Kind::TRI7 => of_kind(Kind::SEG3, 3, ids, b"013124205", out),
         Kind::QUAD4 => of_kind(Kind::SEG2, 4, ids, b"01122330", out),
-        Kind::QUAD8 => given(0, 0),
-        Kind::QUAD9 => given(0, 0),
         Kind::TET4 => of_kind(Kind::TRI3, 4, ids, b"013123203021", out),
-        Kind::TET10 => given(0, 0),
         Kind::WEDGE6 => wedge_faces(ids, out),
-        Kind::WEDGE15 => given(0, 0),
         Kind::HEX8 => of_kind(Kind::QUAD4, 6, ids, b"032145670154237612653047", out),
         _ => given(0, 0),
     }
@@ -62,21 +56,12 @@ fn second_parts(kind: u64, ids: &[u64], out: &mut [u64]) -> Parts
     ensures { λ r. ⌜ Permits (toFirst (tableParts kind 2 (now (ids .entry))) (now (out .entry))) r (now (out .exit)) ⌝ }
 {
     match kind {
-        0 => given(0, 0),
-        Kind::VERTEX => given(0, 0),
-        Kind::SEG2 => given(0, 0),
-        Kind::SEG3 => given(0, 0),
-        Kind::SEG4 => given(0, 0),
         Kind::TRI3 => of_kind(Kind::VERTEX, 3, ids, b"012", out),
         Kind::TRI6 => of_kind(Kind::VERTEX, 3, ids, b"012", out),
         Kind::TRI7 => of_kind(Kind::VERTEX, 3, ids, b"012", out),
         Kind::QUAD4 => of_kind(Kind::VERTEX, 4, ids, b"0123", out),
-        Kind::QUAD8 => given(0, 0),
-        Kind::QUAD9 => given(0, 0),
         Kind::TET4 => of_kind(Kind::SEG2, 6, ids, b"010203121323", out),
-        Kind::TET10 => given(0, 0),
         Kind::WEDGE6 => of_kind(Kind::SEG2, 9, ids, b"010203121425343545", out),
-        Kind::WEDGE15 => given(0, 0),
         Kind::HEX8 => of_kind(Kind::SEG2, 12, ids, b"010304121523263745475667", out),
         _ => given(0, 0),
     }
@@ -88,21 +73,8 @@ fn third_parts(kind: u64, ids: &[u64], out: &mut [u64]) -> Parts
     ensures { λ r. ⌜ Permits (toFirst (tableParts kind 3 (now (ids .entry))) (now (out .entry))) r (now (out .exit)) ⌝ }
 {
     match kind {
-        0 => given(0, 0),
-        Kind::VERTEX => given(0, 0),
-        Kind::SEG2 => given(0, 0),
-        Kind::SEG3 => given(0, 0),
-        Kind::SEG4 => given(0, 0),
-        Kind::TRI3 => given(0, 0),
-        Kind::TRI6 => given(0, 0),
-        Kind::TRI7 => given(0, 0),
-        Kind::QUAD4 => given(0, 0),
-        Kind::QUAD8 => given(0, 0),
-        Kind::QUAD9 => given(0, 0),
         Kind::TET4 => of_kind(Kind::VERTEX, 4, ids, b"0123", out),
-        Kind::TET10 => given(0, 0),
         Kind::WEDGE6 => of_kind(Kind::VERTEX, 6, ids, b"012345", out),
-        Kind::WEDGE15 => given(0, 0),
         Kind::HEX8 => of_kind(Kind::VERTEX, 8, ids, b"01234567", out),
         _ => given(0, 0),
     }

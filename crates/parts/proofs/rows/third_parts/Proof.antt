@@ -1,11 +1,11 @@
--- `rows::third_parts` meets its contract: each arm's digits are the table's, and past the last table there is none.
+-- `rows::third_parts` meets its contract: each arm's digits are the table's, and a kind without an arm has no such parts.
 use borrow.Author.Needs.{needs}
 use mathlib.Core.Path.{_≡_, refl}
+use mathlib.Core.List.{[], _∷_}
 use Rattle.base.specs.Kinds.{nodesOf}
-use Rattle.base.proofs.Tests.{past}
 use Rattle.parts.specs.Tables.{tableOf}
 use Rattle.parts.proofs.Fitting.{nodes-are, none-given}
-use Rattle.parts.proofs.Tables.{no-table}
+use Rattle.parts.proofs.Tables.{lacking}
 use Rattle.parts.proofs.rows.third_parts.Statement.{statement}
 use Rattle.parts.proofs.rows.third_parts.Tie as tie
 
@@ -14,45 +14,17 @@ unfolding tableOf nodesOf
 third-parts-spec =
     tie.close
     (tie.spec
-    (λ c κs. tt)
-    (λ c κs. tt)
-    (λ c κs. tt)
-    (λ c κs. tt)
-    (λ c κs. tt)
-    (λ c κs. tt)
-    (λ c κs. tt)
-    (λ c κs. tt)
-    (λ c κs. tt)
-    (λ c κs. tt)
+    (λ c. search needs)
+    (λ c κs. let m = c .before .before in rw (nodes-are _ _ _ (m .before .before .before .pre) (m .match .keys1) refl))
+    (λ c. search needs)
+    (λ c κs. let m = c .before .before in rw (nodes-are _ _ _ (m .before .before .before .pre) (m .match .keys2) refl))
+    (λ c. search needs)
+    (λ c κs. let m = c .before .before in rw (nodes-are _ _ _ (m .before .before .before .pre) (m .match .keys3) refl))
     (λ c κs. tt)
     (λ c. search needs)
-    (λ c κs. let m = c .before .before in rw (nodes-are _ _ _ (m .before .before .before .pre) (m .match .keys12) refl))
-    (λ c κs. tt)
+    (λ c. let p = c .before .before in rw (p .before .before .before .match .keys1) (p .of-kind .ensures))
     (λ c. search needs)
-    (λ c κs. let m = c .before .before in rw (nodes-are _ _ _ (m .before .before .before .pre) (m .match .keys14) refl))
-    (λ c κs. tt)
+    (λ c. let p = c .before .before in rw (p .before .before .before .match .keys2) (p .of-kind2 .ensures))
     (λ c. search needs)
-    (λ c κs. let m = c .before .before in rw (nodes-are _ _ _ (m .before .before .before .pre) (m .match .keys16) refl))
-    (λ c κs. tt)
-    (λ c. rw (c .before .match .keys1) (none-given _ _ _ (c .given .ensures)))
-    (λ c. rw (c .before .match .keys2) (none-given _ _ _ (c .given2 .ensures)))
-    (λ c. rw (c .before .match .keys3) (none-given _ _ _ (c .given3 .ensures)))
-    (λ c. rw (c .before .match .keys4) (none-given _ _ _ (c .given4 .ensures)))
-    (λ c. rw (c .before .match .keys5) (none-given _ _ _ (c .given5 .ensures)))
-    (λ c. rw (c .before .match .keys6) (none-given _ _ _ (c .given6 .ensures)))
-    (λ c. rw (c .before .match .keys7) (none-given _ _ _ (c .given7 .ensures)))
-    (λ c. rw (c .before .match .keys8) (none-given _ _ _ (c .given8 .ensures)))
-    (λ c. rw (c .before .match .keys9) (none-given _ _ _ (c .given9 .ensures)))
-    (λ c. rw (c .before .match .keys10) (none-given _ _ _ (c .given10 .ensures)))
-    (λ c. rw (c .before .match .keys11) (none-given _ _ _ (c .given11 .ensures)))
-    (λ c. search needs)
-    (λ c. let p = c .before .before in rw (p .before .before .before .match .keys12) (p .of-kind .ensures))
-    (λ c. rw (c .before .match .keys13) (none-given _ _ _ (c .given12 .ensures)))
-    (λ c. search needs)
-    (λ c. let p = c .before .before in rw (p .before .before .before .match .keys14) (p .of-kind2 .ensures))
-    (λ c. rw (c .before .match .keys15) (none-given _ _ _ (c .given13 .ensures)))
-    (λ c. search needs)
-    (λ c. let p = c .before .before in rw (p .before .before .before .match .keys16) (p .of-kind3 .ensures))
-    (λ c.
-    let h = past (c .before .before .before .before .args .kind) 16 (c .before .match .rest) in
-    rw (no-table _ h) (none-given _ _ _ (c .given14 .ensures))))
+    (λ c. let p = c .before .before in rw (p .before .before .before .match .keys3) (p .of-kind3 .ensures))
+    (λ c. rw (lacking 3 (15 ∷ 13 ∷ 11 ∷ []) tt _ (c .before .match .rest)) (none-given _ _ _ (c .given .ensures))))
