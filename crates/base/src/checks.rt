@@ -13,9 +13,11 @@ pub fn element_refusal(kind: u64, ids: &[u64]) -> u64
     ensures { λ r. ⌜ r ≡ elementRefusal kind (now (ids .entry)) ⌝ }
 {
     let nodes = node_count(kind);
-    let free = (nodes == 0) & ((kind == Kind::PHED) | (0 < ids.len()));
-    let exact = (nodes != 0) & (ids.len() == nodes);
-    input_refusal(kind, ids, Kind::ELEMENT_LIMIT, free | exact)
+    if nodes == 0 {
+        let fits = (kind == Kind::PHED) | (0 < ids.len());
+        return input_refusal(kind, ids, Kind::ELEMENT_LIMIT, fits);
+    }
+    input_refusal(kind, ids, Kind::ELEMENT_LIMIT, ids.len() == nodes)
 }
 
 // The first of the refusals 1 to 4 that a block of one kind meets, or 0.
