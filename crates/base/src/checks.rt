@@ -1,6 +1,6 @@
 // The checks that every input passes first: refusals 1 to 4, in that order.
 ghost use mathlib.Core.Path.{_≡_};
-ghost use mathlib.Core.Bool.{false};
+ghost use mathlib.Core.Bool.{false, true};
 ghost use Prim.Native.Nat.{_<_};
 ghost use Rattle.base.specs.Checks.{blockRefusal, elementRefusal, holdsSeparator, inputRefusal};
 use super::kinds::Kind;
@@ -15,9 +15,9 @@ pub fn element_refusal(kind: u64, ids: &[u64]) -> u64
     let nodes = node_count(kind);
     if nodes == 0 {
         let fits = (kind == Kind::PHED) | (0 < ids.len());
-        return input_refusal(kind, ids, Kind::ELEMENT_LIMIT, fits);
+        return input_refusal(kind, ids, Kind::ELEMENT_LIMIT, fits, false);
     }
-    input_refusal(kind, ids, Kind::ELEMENT_LIMIT, ids.len() == nodes)
+    input_refusal(kind, ids, Kind::ELEMENT_LIMIT, ids.len() == nodes, false)
 }
 
 // The first of the refusals 1 to 4 that a block of one kind meets, or 0.
@@ -25,14 +25,17 @@ pub fn block_refusal(kind: u64, ids: &[u64]) -> u64
     ensures { λ r. ⌜ r ≡ blockRefusal kind (now (ids .entry)) ⌝ }
 {
     let nodes = node_count(kind);
+    let clean = is_clean(ids);
     if nodes == 0 {
-        return input_refusal(kind, ids, Kind::BLOCK_LIMIT, true);
+        return input_refusal(kind, ids, Kind::BLOCK_LIMIT, true, clean);
     }
-    input_refusal(kind, ids, Kind::BLOCK_LIMIT, ids.len() % nodes == 0)
+    input_refusal(kind, ids, Kind::BLOCK_LIMIT, ids.len() % nodes == 0, clean)
 }
 
-// What the two share: the limit and the verdict on the node count differ.
-fn input_refusal(kind: u64, ids: &[u64], limit: usize, fits: bool) -> u64
+// What the two share: the limit and the verdict on the node count differ. A list that is known to be
+// clean is not searched for separators.
+fn input_refusal(kind: u64, ids: &[u64], limit: usize, fits: bool, clean: bool) -> u64
+    requires { ⌜ (clean ≡ true → holdsSeparator (now ids) ≡ false) ⌝ }
     ensures { λ r. ⌜ r ≡ inputRefusal limit fits kind (now (ids .entry)) ⌝ }
 {
     if !is_kind(kind) {
@@ -47,27 +50,43 @@ fn input_refusal(kind: u64, ids: &[u64], limit: usize, fits: bool) -> u64
     if kind == Kind::PHED {
         return 0;
     }
+    if clean {
+        return 0;
+    }
     if holds_separator(ids) {
         return Refusal::STRAY_SEPARATOR;
     }
     0
 }
 
-// Whether a separator stands in the list. The ids are joined first: a separator has the highest bit,
-// and where no id has it, as is usual, there is none.
+// Whether a separator stands in the list. This loop and the one below read the whole list with no early
+// end, so that they have no branch to mispredict and work on several ids at a time.
 fn holds_separator(ids: &[u64]) -> bool
     ensures { λ r. ⌜ r ≡ holdsSeparator (now (ids .entry)) ⌝ }
 {
-    if all_bits(ids) < HIGHEST_BIT {
+    let mut found = false;
+    let mut i = 0;
+    while i < ids.len() {
+        found = found | (ids[i] == Kind::SEPARATOR);
+        i += 1;
+    }
+    found
+}
+
+// Whether a block is seen at once to have no separator, which has the highest bit: ids are small. To join
+// them takes half as long as to compare each. More ids than a block may have are not looked at.
+fn is_clean(ids: &[u64]) -> bool
+    ensures { λ r. ⌜ (r ≡ true → holdsSeparator (now (ids .entry)) ≡ false) ⌝ }
+{
+    if Kind::BLOCK_LIMIT < ids.len() {
         return false;
     }
-    meets_separator(ids)
+    all_bits(ids) < HIGHEST_BIT
 }
 
 const HIGHEST_BIT: u64 = 0x8000_0000_0000_0000;
 
-// All bits of all ids. This and the search below read the whole list with no early end, so that their
-// loops have no branch to mispredict and work on several ids at a time.
+// All bits of all ids.
 fn all_bits(ids: &[u64]) -> u64
     ensures { λ r. ⌜ (r < 9223372036854775808 → holdsSeparator (now (ids .entry)) ≡ false) ⌝ }
 {
@@ -78,17 +97,4 @@ fn all_bits(ids: &[u64]) -> u64
         i += 1;
     }
     bits
-}
-
-// The search itself.
-fn meets_separator(ids: &[u64]) -> bool
-    ensures { λ r. ⌜ r ≡ holdsSeparator (now (ids .entry)) ⌝ }
-{
-    let mut found = false;
-    let mut i = 0;
-    while i < ids.len() {
-        found = found | (ids[i] == Kind::SEPARATOR);
-        i += 1;
-    }
-    found
 }

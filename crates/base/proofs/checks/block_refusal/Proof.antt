@@ -12,7 +12,12 @@ block-refusal-spec =
     (tie.spec
     (λ c κs. tt)
     (λ c κs. tt)
-    (λ c. simp (← c .before .before .node-count .ensures, eq-eqb _ _ (c .before .if1 .taken), c .input-refusal .ensures))
+    (λ c κs. c .before .is-clean .ensures)
+    (λ c.
+    let t = c .before in
+    simp (← t .before .before .node-count .ensures, eq-eqb _ _ (t .if1 .taken), c .input-refusal .ensures))
     (λ c. omega (arith, c .if1 .left))
-    (λ c κs. tt)
-    (λ c. simp (← c .before .before .node-count .ensures, ne-eqb _ _ (c .before .if1 .left), c .input-refusal2 .ensures)))
+    (λ c κs. c .before .is-clean .ensures)
+    (λ c.
+    let e = c .before in
+    simp (← e .before .before .node-count .ensures, ne-eqb _ _ (e .if1 .left), c .input-refusal2 .ensures)))

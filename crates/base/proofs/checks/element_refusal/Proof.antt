@@ -1,5 +1,6 @@
 -- `checks::element_refusal` meets its contract: it hands the shared check the element's limit and verdict.
 use borrow.Author.Tests.{eq-eqb, ne-eqb}
+use mathlib.Core.Bool.{false≢true}
 use Rattle.base.specs.Checks.{elementFits, elementRefusal}
 use Rattle.base.proofs.checks.element_refusal.Statement.{statement}
 use Rattle.base.proofs.checks.element_refusal.Tie as tie
@@ -10,7 +11,7 @@ element-refusal-spec =
     tie.close
     (tie.spec
     (λ c κs. tt)
-    (λ c κs. tt)
+    (λ c κs e. absurd (false≢true e))
     (λ c. simp (← c .before .before .node-count .ensures, eq-eqb _ _ (c .before .if1 .taken), c .input-refusal .ensures))
-    (λ c κs. tt)
+    (λ c κs e. absurd (false≢true e))
     (λ c. simp (← c .before .before .node-count .ensures, ne-eqb _ _ (c .before .if1 .left), c .input-refusal2 .ensures)))

@@ -24,9 +24,21 @@ input-refusal-spec =
       c .before .if3 .left,
       eq-eqb _ _ (c .if4 .taken),
     ))
+    (λ c.
+    let j = c .before in
+    let k = j .before .before .before in
+    let s = k .before .before .before in
+    simp (
+      ← k .before .is-kind .ensures,
+      k .if1 .left,
+      le-ltb _ _ (j .before .before .if2 .left),
+      j .before .if3 .left,
+      ne-eqb _ _ (j .if4 .left),
+      s .pre (c .if5 .taken),
+    ))
     (λ c κs. tt)
     (λ c.
-    let j = c .before .before in
+    let j = c .before .before .before in
     let k = j .before .before .before in
     simp (
       ← k .before .is-kind .ensures,
@@ -35,10 +47,10 @@ input-refusal-spec =
       j .before .if3 .left,
       ne-eqb _ _ (j .if4 .left),
       ← c .before .holds-separator .ensures,
-      c .if5 .taken,
+      c .if6 .taken,
     ))
     (λ c.
-    let j = c .before .before in
+    let j = c .before .before .before in
     let k = j .before .before .before in
     simp (
       ← k .before .is-kind .ensures,
@@ -47,5 +59,5 @@ input-refusal-spec =
       j .before .if3 .left,
       ne-eqb _ _ (j .if4 .left),
       ← c .before .holds-separator .ensures,
-      c .if5 .left,
+      c .if6 .left,
     )))
