@@ -3,3 +3,4 @@ pub mod Checks
 pub mod Outcome
 pub mod Gather
 pub mod Solids
+pub mod Inner

@@ -12,6 +12,7 @@ use borrow.Author.Tests.{eqb-true, eqb-false, ne-eqb}
 use Rattle.base.specs.Solids.{isSolid}
 use Rattle.base.specs.Gather.{pick}
 use Rattle.base.specs.Kinds.{nodesOf}
+use Rattle.base.specs.Inner.Place.{putAt}
 use Rattle.base.specs.Outcome.{overwrite}
 use Rattle.base.specs.Checks.{blockRefusal}
 use Rattle.base.proofs.Accepted.{block-accepted}
@@ -104,8 +105,9 @@ module _ (kind : ℕ) where
     -- a turn of the loop that writes them
     module _ (i at : ℕ) (h : at ≡ length (splits (cells kind i ids))) where
       pub next-written : (out entry lent : List ℕ) → out ≡ overwrite (splits (cells kind i ids)) entry
-          → lent ≡ take at out ++ overwrite (split kind (cellAt ids i)) (drop at out)
+          → lent ≡ putAt (split kind (cellAt ids i)) at out
           → lent ≡ overwrite (splits (cells kind (i + 1) ids)) entry
+      unfolding putAt
       next-written out entry lent e l =
           l ∙ rw (e, h) (overwrite-more (splits (cells kind i ids)) (split kind (cellAt ids i)) entry)
           ∙ ap (λ (xs : List ℕ). overwrite xs entry) (sym (splits-more i))

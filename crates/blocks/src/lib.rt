@@ -1,12 +1,12 @@
 // Blocks of cells of one kind, split cell by cell into one lent output.
 ghost use mathlib.Core.Path.{_≡_};
 ghost use mathlib.Core.Bool.{true};
-ghost use mathlib.Core.List.{_++_};
 ghost use Prim.Native.Nat.{_*_, _+_, _-_, _≤_, min};
 ghost use lib.Dec.{leb};
 ghost use lib.ListN.{drop, length, take};
 ghost use Rattle.base.specs.Solids.{isSolid};
 ghost use Rattle.base.specs.Kinds.{nodesOf};
+ghost use Rattle.base.specs.Inner.Place.{putAt};
 ghost use Rattle.base.specs.Outcome.{Permits, overwrite};
 ghost use Rattle.cuts.specs.Demand3.{splits};
 ghost use Rattle.cuts.specs.Split.{split, splitCount};
@@ -193,7 +193,7 @@ fn write_brick(
     requires { ⌜ (now table ≡ hexStrings) × (row ≡ hexPlace (take 8 (drop (i * 8) (now ids)))) × (i * 8 + 8 ≤ length (now ids)) ⌝ }
     requires { ⌜ at + length (split 15 (take 8 (drop (i * 8) (now ids)))) ≤ length (now out) ⌝ }
     ensures { λ r. ⌜ r ≡ splitCount 15 (take 8 (drop (i * 8) (now (ids .entry)))) ⌝ }
-    ensures { λ _. ⌜ now (out .exit) ≡ take at (now (out .entry)) ++ overwrite (split 15 (take 8 (drop (i * 8) (now (ids .entry))))) (drop at (now (out .entry))) ⌝ }
+    ensures { λ _. ⌜ now (out .exit) ≡ putAt (split 15 (take 8 (drop (i * 8) (now (ids .entry))))) at (now (out .entry)) ⌝ }
 {
     let from = i * Kind::HEX8_NODES;
     let end = from + Kind::HEX8_NODES;
@@ -226,7 +226,7 @@ fn write_wedge(
 )
     requires { ⌜ (now table ≡ wedgeStrings) × (now quads ≡ quadStrings) × (i * 6 + 6 ≤ length (now ids)) ⌝ }
     requires { ⌜ at + length (split 13 (take 6 (drop (i * 6) (now ids)))) ≤ length (now out) ⌝ }
-    ensures { λ _. ⌜ now (out .exit) ≡ take at (now (out .entry)) ++ overwrite (split 13 (take 6 (drop (i * 6) (now (ids .entry))))) (drop at (now (out .entry))) ⌝ }
+    ensures { λ _. ⌜ now (out .exit) ≡ putAt (split 13 (take 6 (drop (i * 6) (now (ids .entry))))) at (now (out .entry)) ⌝ }
 {
     let from = i * Kind::WEDGE6_NODES;
     let end = from + Kind::WEDGE6_NODES;

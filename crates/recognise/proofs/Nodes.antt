@@ -16,7 +16,7 @@ use Rattle.faces.specs.declared.Face.{Face}
 use Rattle.faces.specs.Faces.{lead, faces}
 use Rattle.faces.specs.Inner.Walk.{part}
 use Rattle.faces.proofs.Walk.{Next, no-more}
-use Rattle.recognise.specs.Inner.Filling.{added}
+use Rattle.base.specs.Inner.Place.{putAt}
 use Rattle.recognise.specs.Recognise.{tally, otherLength, ofLength, nodesIn}
 
 tally-lead : (n : ℕ) (r : List ℕ) (fs : List (List ℕ)) → 0 < n
@@ -96,8 +96,8 @@ not-of-length n f h = rw (ne-eqb (length f) n h)
 pub part-home : (out more : List ℕ) (filled : ℕ) → putMid filled (length out - filled) out more ≡ take filled out ++ more
 part-home out more filled = ap (λ (l : List ℕ). take filled out ++ l) (rest-back out more filled)
 
-pub none-added : (out : List ℕ) (filled : ℕ) → added out [] filled ≡ out
-unfolding overwrite
+pub none-added : (out : List ℕ) (filled : ℕ) → putAt [] filled out ≡ out
+unfolding putAt overwrite
 none-added out filled = take-append-drop filled out
 
 -- the first `filled` entries of out, with the rest behind them, are all that is to be written, and behind them out is
@@ -130,24 +130,24 @@ module _ (was all out : List ℕ) (filled : ℕ) where
     seam : length (take filled out ++ more) ≡ filled + length more
     seam = rw (length-append, length-take-le filled out (f .within))
 
-    apart : added out more filled ≡ (take filled out ++ more) ++ drop (filled + length more) out
-    unfolding overwrite
+    apart : putAt more filled out ≡ (take filled out ++ more) ++ drop (filled + length more) out
+    unfolding putAt overwrite
     apart = rw (append-assoc, drop-drop)
 
-    front : take (filled + length more) (added out more filled) ≡ take filled out ++ more
+    front : take (filled + length more) (putAt more filled out) ≡ take filled out ++ more
     front = rw (apart, ← seam) (take-append-seam (take filled out ++ more) _)
 
-    long-still : length (added out more filled) ≡ length out
+    long-still : length (putAt more filled out) ≡ length out
     long-still = rw (apart, length-append, seam, length-drop) (omega (arith, filled-room))
 
-    behind-still : drop (filled + length more) (added out more filled) ≡ drop (filled + length more) was
+    behind-still : drop (filled + length more) (putAt more filled out) ≡ drop (filled + length more) was
     behind-still =
-        ap (λ (n : ℕ). drop n (added out more filled)) (sym seam)
+        ap (λ (n : ℕ). drop n (putAt more filled out)) (sym seam)
         ∙ ap (λ (l : List ℕ). drop (length (take filled out ++ more)) l) apart
         ∙ drop-append-seam (take filled out ++ more) _
         ∙ sym (rw (drop-drop, drop-drop) at (ap (λ (l : List ℕ). drop (length more) l) (sym (f .behind))))
 
-    pub filled-more : Filled was all (added out more filled) (filled + length more) rest
+    pub filled-more : Filled was all (putAt more filled out) (filled + length more) rest
     filled-more = record {
       long = long-still ∙ f .long;
       within = omega (arith, long-still, filled-room);

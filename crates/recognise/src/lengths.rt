@@ -5,7 +5,7 @@ ghost use lib.ListN.{length};
 ghost use Rattle.base.specs.Outcome.{overwrite};
 ghost use Rattle.faces.specs.Faces.{faces};
 ghost use Rattle.faces.specs.Inner.Walk.{part};
-ghost use Rattle.recognise.specs.Inner.Filling.{added};
+ghost use Rattle.base.specs.Inner.Place.{putAt};
 ghost use Rattle.recognise.specs.Recognise.{nodesIn, ofLength, otherLength, tally};
 use base::lent::copy;
 use faces::next_face;
@@ -73,7 +73,7 @@ fn add_face(
     filled: usize,
 ) -> usize
     requires { ⌜ (start ≤ end) × (end ≤ length (now ids)) × (end - start ≡ n → filled + n ≤ length (now out)) ⌝ }
-    ensures { λ r. ⌜ (r ≡ filled + length (ofLength n (part (now (ids .entry)) start end))) × (now (out .exit) ≡ added (now (out .entry)) (ofLength n (part (now (ids .entry)) start end)) filled) ⌝ }
+    ensures { λ r. ⌜ (r ≡ filled + length (ofLength n (part (now (ids .entry)) start end))) × (now (out .exit) ≡ putAt (ofLength n (part (now (ids .entry)) start end)) filled (now (out .entry))) ⌝ }
 {
     if end - start == n {
         copy(&ids[start..end], &mut out[filled..]);

@@ -12,7 +12,7 @@ use Rattle.base.specs.Outcome.{Permits, overwrite, given}
 use Rattle.base.specs.declared.refusals.Answer.{Answer}
 use Rattle.base.proofs.Settle.{settle-gives}
 use Rattle.base.proofs.Lists.{overwrite-more, overwrite-front}
-use Rattle.records.specs.Inner.Place.{putAt}
+use Rattle.base.specs.Inner.Place.{putAt}
 use Rattle.records.specs.Wire.{number, numberAt, lowBytes, idsIn, idBytes, readOutcome}
 use Rattle.records.proofs.Places.{put-first}
 

@@ -8,7 +8,7 @@ use lib.Dec.{ltb}
 use lib.ListN.{length, set, length-append}
 use borrow.Author.Tests.{lt-ltb, le-ltb, ltb-true}
 use Rattle.base.specs.Gather.{digits}
-use Rattle.records.specs.Inner.Place.{putAt}
+use Rattle.base.specs.Inner.Place.{putAt}
 use Rattle.records.specs.Text.{placesIn, places, spelled, decimal}
 use Rattle.records.proofs.Tests.{by-test}
 use Rattle.records.proofs.Places.{put-last}

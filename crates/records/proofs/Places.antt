@@ -8,7 +8,8 @@ use mathlib.Core.List.{List, [], _∷_, _++_, append-assoc}
 use lib.ListN.{length, take, drop, set, length-append, take-append-drop}
 use lib.Seq.{take-at, drop-at, drop-drop, set-split, length-take-le, take-set-le}
 use Rattle.base.specs.Outcome.{overwrite}
-use Rattle.records.specs.Inner.Place.{putAt, Written}
+use Rattle.base.specs.Inner.Place.{putAt}
+use Rattle.records.specs.Inner.Place.{Written}
 
 pub put-none : (at : ℕ) (out : List ℕ) → putAt [] at out ≡ out
 unfolding putAt overwrite

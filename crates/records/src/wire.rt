@@ -3,7 +3,7 @@ ghost use mathlib.Core.Path.{_≡_};
 ghost use Prim.Native.Nat.{_+_, _*_, _<_, _≤_};
 ghost use lib.ListN.{length};
 ghost use Rattle.base.specs.Outcome.{Permits, overwrite};
-ghost use Rattle.records.specs.Inner.Place.{putAt};
+ghost use Rattle.base.specs.Inner.Place.{putAt};
 ghost use Rattle.records.specs.Wire.{idBytes, idsIn, lowBytes, numberAt, readOutcome, writeOutcome};
 use base::refusals::Answer;
 use base::refusals::Refusal;

@@ -1,6 +1,6 @@
 -- Laws of faces joined in one list: what one face adds behind those that stand, and how it is written there.
 use mathlib.Core.Path.{_≡_, refl, sym, ap, ap₂, _∙_}
-use mathlib.Core.List.{List, [], _∷_, _++_, map, append-nil}
+use mathlib.Core.List.{List, [], _∷_, _++_, map, append-assoc, append-nil}
 use mathlib.Core.Bool.{cond}
 use Prim.Native.Nat.{ℕ, zero, suc, _+_, _-_, _*_, _≤_, _<_}
 use native.Mathlib.Nat.{le-of-eq, add-zero}
@@ -10,10 +10,12 @@ use lib.Dec.{eqb}
 use borrow.Author.Tests.{ne-eqb}
 use lib.ListN.{length, take, drop, set, take-append-drop, length-append, length-drop}
 use lib.Seq.{paste, take-all, take-suc-set, drop-set-lt, append-snoc, take-at, drop-append-add, drop-drop, length-take-le}
+use Rattle.base.specs.Inner.Place.{putAt}
+use Rattle.base.specs.Outcome.{overwrite}
 use Rattle.base.specs.Kinds.{separator}
 use Rattle.faces.specs.Faces.{lead, joined, further}
 use Rattle.faces.specs.Inner.Walk.{part}
-use Rattle.winding.specs.Inner.Scan.{piece, splice}
+use Rattle.winding.specs.Inner.Scan.{piece}
 
 pub empty : (l : List ℕ) → length l ≡ 0 → l ≡ []
 empty [] e = refl
@@ -101,6 +103,14 @@ module _ (g : List ℕ → List ℕ) (keeps : (f : List ℕ) → length (g f) �
   joined-length (f ∷ fs) = simp length-append (omega (arith, keeps f, further-length fs))
 
 -- ---- how it is written
+
+-- a list in the place of as many entries from a place on
+abbrev pub splice : List ℕ → ℕ → List ℕ → List ℕ
+splice out at list = take at out ++ list ++ drop (at + length list) out
+
+pub put-splice : (s : List ℕ) (at : ℕ) (d : List ℕ) → putAt s at d ≡ splice d at s
+unfolding putAt overwrite
+put-splice s at d = rw (append-assoc, drop-drop)
 
 pub splice-nil : (d : List ℕ) (at : ℕ) → splice d at [] ≡ d
 splice-nil d at = simp (add-zero, append-nil, take-append-drop)

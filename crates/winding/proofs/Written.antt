@@ -4,14 +4,15 @@ use mathlib.Core.List.{List, [], _++_, map, append-nil, append-assoc}
 use Prim.Native.Nat.{ℕ, _+_, _≤_}
 use native.Mathlib.Omega.{arith}
 use lib.ListN.{length, drop, length-append, length-drop}
+use Rattle.base.specs.Inner.Place.{putAt}
 use Rattle.base.specs.Kinds.{separator}
 use Rattle.base.specs.Outcome.{overwrite}
 use Rattle.faces.specs.declared.Face.{Face}
 use Rattle.faces.specs.Faces.{faces, joined}
 use Rattle.faces.specs.Inner.Walk.{part}
 use Rattle.faces.proofs.Walk.{Next, no-more}
-use Rattle.winding.specs.Inner.Scan.{piece, splice}
-use Rattle.winding.proofs.Joined.{behind, behind-none, behind-lead, map-lead, piece-length, extends}
+use Rattle.winding.specs.Inner.Scan.{piece}
+use Rattle.winding.proofs.Joined.{behind, behind-none, behind-lead, map-lead, piece-length, extends, put-splice, splice}
 
 module _ (g : List ℕ → List ℕ) (keeps : (f : List ℕ) → length (g f) ≡ length f) (ids out₀ : List ℕ) where
   abbrev pub Whole : List ℕ
@@ -74,7 +75,7 @@ module _ (g : List ℕ → List ℕ) (keeps : (f : List ℕ) → length (g f) �
             length-out h,
           )
 
-      pub step : (out' : List ℕ) → out' ≡ splice out at (piece at (g face)) → Written out' (f .end) (at + length (piece at face))
+      pub step : (out' : List ℕ) → out' ≡ putAt (piece at (g face)) at out → Written out' (f .end) (at + length (piece at face))
       step out' e =
           let s = piece at (g face) in
           let k : length s ≡ length (piece at face) = piece-length at (g face) face (keeps face) in
@@ -85,6 +86,6 @@ module _ (g : List ℕ → List ℕ) (keeps : (f : List ℕ) → length (g f) �
                 w .whole ∙ ap (λ (l : List ℕ). w .done ++ l) next
                 ∙ sym (append-assoc (w .done) s (Rest (f .end) (at + length (piece at face))));
             is =
-                e ∙ ap (λ (l : List ℕ). splice l at s) (w .is) ∙ extends (w .done) out₀ at s (w .long)
+                e ∙ put-splice s at out ∙ ap (λ (l : List ℕ). splice l at s) (w .is) ∙ extends (w .done) out₀ at s (w .long)
                 ∙ ap (λ (k : ℕ). (w .done ++ s) ++ drop (at + k) out₀) k;
           }

@@ -6,6 +6,7 @@ ghost use mathlib.Core.List.{map};
 ghost use lib.Dec.{eqb};
 ghost use lib.ListN.{length};
 ghost use lib.Seq.{paste};
+ghost use Rattle.base.specs.Inner.Place.{putAt};
 ghost use Rattle.base.specs.Kinds.{separator};
 ghost use Rattle.base.specs.Outcome.{overwrite};
 ghost use Rattle.faces.specs.Faces.{faces, joined};
@@ -13,7 +14,7 @@ ghost use Rattle.winding.specs.Points.{lacksPoint, pointCount};
 ghost use Rattle.winding.specs.Inner.Scan.{Placed};
 ghost use Rattle.winding.specs.Space.{outward};
 ghost use Rattle.winding.specs.Turn.{turned};
-ghost use Rattle.winding.specs.Inner.Scan.{piece, splice};
+ghost use Rattle.winding.specs.Inner.Scan.{piece};
 use super::point::Vector;
 use super::space::looks_in;
 use base::kinds::Kind;
@@ -90,7 +91,7 @@ pub fn put_faces(points: &[f64], ids: &[u64], reference: Vector, out: &mut [u64]
 fn put_face(points: &[f64], reference: Vector, face: &[u64], out: &mut [u64], at: usize) -> usize
     requires { ⌜ Placed (pointCount 3 (length (now points))) (now face) ⌝ }
     requires { ⌜ at + length (piece at (now face)) ≤ length (now out) ⌝ }
-    ensures { λ r. ⌜ (now (out .exit) ≡ splice (now (out .entry)) at (piece at (outward (now (points .entry)) reference (now (face .entry))))) × (r ≡ at + length (piece at (now (face .entry)))) ⌝ }
+    ensures { λ r. ⌜ (now (out .exit) ≡ putAt (piece at (outward (now (points .entry)) reference (now (face .entry)))) at (now (out .entry))) × (r ≡ at + length (piece at (now (face .entry)))) ⌝ }
 {
     let n = face.len();
     if n == 0 {

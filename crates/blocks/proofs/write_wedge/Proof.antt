@@ -1,10 +1,10 @@
 -- `write_wedge` meets its contract: the wedge's answer stands in the part that is lent on, and the front is kept.
 use borrow.Author.Needs.{needs}
-use mathlib.Core.Path.{_≡_}
 use Prim.Native.Nat.{_*_}
 use native.Mathlib.Omega.{arith}
 use lib.ListN.{take, drop, length-drop}
 use Rattle.base.specs.Kinds.{nodesOf}
+use Rattle.base.specs.Inner.Place.{putAt}
 use Rattle.base.specs.Outcome.{overwrite}
 use Rattle.base.proofs.Lists.{rest-whole, rest-back}
 use Rattle.cuts.specs.Split.{cut, split, splitKind}
@@ -23,7 +23,7 @@ write-wedge-row-requires c κs =
     )
 
 returns : tie.Need-returns
-unfolding split cut splitKind nodesOf
+unfolding putAt split cut splitKind nodesOf
 returns c =
     let a = c .before .before .before .before .before .before .before .before .before .args in
     let out = a .out .now in

@@ -7,7 +7,7 @@ use native.Mathlib.Nat.{add-zero}
 use mathlib.Core.List.{_++_}
 use lib.ListN.{length, take, length-take, length-drop}
 use Rattle.base.proofs.Lists.{rest-whole}
-use Rattle.recognise.specs.Inner.Filling.{added}
+use Rattle.base.specs.Inner.Place.{putAt}
 use Rattle.recognise.specs.Recognise.{ofLength}
 use Rattle.faces.specs.Inner.Walk.{part}
 use Rattle.recognise.proofs.Nodes.{length-part, of-length, not-of-length, none-added, part-home}
@@ -34,13 +34,14 @@ add-result : tie.Need-add-result
 add-result c = omega (arith, room (c .before .before .before .before .before))
 
 returns : tie.Need-returns
+unfolding putAt
 returns c =
     let t = c .before .before .before .before .before in
     let s = t .before .before .before in
     let e : length (part (s .args .ids .now) (s .args .start) (s .args .end)) ≡ s .args .n =
     length-part _ _ _ (s .pre .0) (s .pre .1) ∙ t .if1 .taken in
     let h : take (s .args .filled) (s .args .out .now) ++ c .before .before .copy .last .1 .0
-    ≡ added (s .args .out .now) (ofLength (s .args .n) (part (s .args .ids .now) (s .args .start) (s .args .end))) (s .args .filled) = rw (
+    ≡ putAt (ofLength (s .args .n) (part (s .args .ids .now) (s .args .start) (s .args .end))) (s .args .filled) (s .args .out .now) = rw (
       of-length _ _ e,
       c .before .before .copy .ensures,
       rest-whole,

@@ -4,7 +4,7 @@ use mathlib.Core.Path.{_≡_, sym, _∙_}
 use Prim.Native.Nat.{suc, _≤_, _-_}
 use native.Mathlib.Omega.{arith}
 use lib.ListN.{length, length-set}
-use Rattle.records.specs.Inner.Place.{putAt}
+use Rattle.base.specs.Inner.Place.{putAt}
 use Rattle.records.specs.Text.{spelled}
 use Rattle.records.proofs.Places.{put-none}
 use Rattle.records.proofs.Decimals.{spell-turn}

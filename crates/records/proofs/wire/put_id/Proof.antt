@@ -5,7 +5,7 @@ use Prim.Native.Nat.{suc, _+_, _≤_, _-_}
 use native.Mathlib.Nat.{add-zero}
 use native.Mathlib.Omega.{arith}
 use lib.ListN.{length, length-set}
-use Rattle.records.specs.Inner.Place.{putAt}
+use Rattle.base.specs.Inner.Place.{putAt}
 use Rattle.records.specs.Wire.{lowBytes}
 use Rattle.records.proofs.Places.{put-none}
 use Rattle.records.proofs.Bytes.{byte-turn}

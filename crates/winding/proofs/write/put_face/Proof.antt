@@ -13,9 +13,9 @@ use denote.Ref.{now}
 use Rattle.base.specs.Kinds.{separator}
 use Rattle.winding.specs.Space.{looksIn, outward}
 use Rattle.winding.specs.Turn.{turned}
-use Rattle.winding.specs.Inner.Scan.{piece, splice}
+use Rattle.winding.specs.Inner.Scan.{piece}
 use Rattle.winding.proofs.Turned.{length-turned}
-use Rattle.winding.proofs.Joined.{empty, piece-zero, piece-more, splice-nil, paste-splice, after-separator}
+use Rattle.winding.proofs.Joined.{empty, piece-zero, piece-more, put-splice, splice, splice-nil, paste-splice, after-separator}
 use Rattle.winding.proofs.write.put_face.Statement.{statement}
 use Rattle.winding.proofs.write.put_face.Tie as tie
 
@@ -25,7 +25,8 @@ returns c =
     let face = now (a .face) in
     let back = looksIn (now (a .points)) (a .reference) face in (
       sym (ap (λ (l : List ℕ). splice (now (a .out)) (a .at) (piece (a .at) l)) (empty (turned back face) (length-turned back face ∙ c .if1 .taken))
-          ∙ splice-nil (now (a .out)) (a .at)),
+          ∙ splice-nil (now (a .out)) (a .at))
+          ∙ sym (put-splice (piece (a .at) (turned back face)) (a .at) (now (a .out))),
       sym (ap (λ (l : List ℕ). a .at + length (piece (a .at) l)) (empty face (c .if1 .taken)) ∙ add-zero (a .at)),
     )
 
@@ -53,7 +54,8 @@ returns-2 c =
       at-put .put-run .ensures
           ∙ ap (λ (b : Bool). paste out 0 (turned b face) (length face)) (at-if .before .looks-in .ensures)
           ∙ paste-splice out 0 t (length face) (length-turned (looksIn (now (a .points)) (a .reference) face) face)
-          ∙ sym (ap (λ (k : ℕ). splice out k (piece k t)) z ∙ ap (λ (l : List ℕ). splice out 0 l) (piece-zero t)),
+          ∙ sym (ap (λ (k : ℕ). splice out k (piece k t)) z ∙ ap (λ (l : List ℕ). splice out 0 l) (piece-zero t))
+          ∙ sym (put-splice (piece (a .at) t) (a .at) out),
       sym (ap (λ (k : ℕ). k + length (piece k face)) z ∙ zero-add _ ∙ ap length (piece-zero face)),
     )
 
@@ -104,7 +106,8 @@ returns-3 c =
           ∙ ap (λ (b : Bool). paste (set out (a .at) separator) (a .at + 1) (turned b face) (length face)) (at-if .before .looks-in .ensures)
           ∙ paste-splice (set out (a .at) separator) (a .at + 1) t (length face) (length-turned (looksIn (now (a .points)) (a .reference) face) face)
           ∙ after-separator out (a .at) t (omega (arith, room at-if))
-          ∙ sym (ap (λ (l : List ℕ). splice out (a .at) l) (piece-more (a .at) t behind (omega (arith, length-turned (looksIn (now (a .points)) (a .reference) face) face)))),
+          ∙ sym (ap (λ (l : List ℕ). splice out (a .at) l) (piece-more (a .at) t behind (omega (arith, length-turned (looksIn (now (a .points)) (a .reference) face) face))))
+          ∙ sym (put-splice (piece (a .at) t) (a .at) out),
       omega (arith, ap length (piece-more (a .at) face behind some)),
     )
 
