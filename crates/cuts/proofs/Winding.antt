@@ -49,9 +49,6 @@ same-flip (tri a b c) (tri x y z) =
     rw (and-swap (eqb b y) (eqb a x) (eqb c z), and-swap (eqb b x) (eqb a z) (eqb c y), and-swap (eqb b z) (eqb a y) (eqb c x))
     (or-swap (inOrder a b c x y z) (inOrder a b c z x y) (inOrder a b c y z x))
 
-pub flip-flip : (s : Tri) → flip (flip s) ≡ s
-flip-flip (tri a b c) = refl
-
 pub same-rot : (s u : Tri) → same s (rot u) ≡ same s u
 same-rot (tri a b c) (tri x y z) = or-turn (inOrder a b c y z x) (inOrder a b c z x y) (inOrder a b c x y z)
 
