@@ -1,5 +1,6 @@
 /* Calls one operation so often: calls ROW ROUNDS, where a round is one call for each of 64 cells, or one block of 64.
-   `calls` alone prints the rows. Ids are random and distinct within a cell, the same in every run. */
+   `calls` alone prints the rows. Ids are random and distinct within a cell, the same in every run. A call that is
+   refused makes it fail, since a refusal takes fewer instructions than an answer. */
 #include "tallyspool.h"
 #include <stdio.h>
 #include <stdlib.h>
@@ -60,20 +61,20 @@ static void squares(void) {
 static void poly(void) { as_poly(0); }
 static void plain(void) {}
 
-static void split_block(const uint64_t *cell) { ts_split_block(kind, cell, CELLS * size, out, CELLS * ROOM); }
-static void to_simplexes(const uint64_t *cell) { ts_to_simplexes(kind, cell, size, out, ROOM); }
-static void subentities(const uint64_t *cell) { ts_subentities(kind, cell, size, out, ROOM, ends, ROOM); }
-static void to_poly(const uint64_t *cell) { ts_to_poly(kind, cell, size, out, ROOM); }
-static void from_poly(const uint64_t *cell) { ts_from_poly(kind, cell, size, out, ROOM); }
-static void in_plane(const uint64_t *cell) { ts_reorient(kind, cell, size, 2, points, 8, out, ROOM); }
-static void in_space(const uint64_t *cell) { ts_reorient(kind, cell, size, 3, points, 24, out, ROOM); }
+static uint64_t split_block(const uint64_t *cell) { return ts_split_block(kind, cell, CELLS * size, out, CELLS * ROOM).refusal; }
+static uint64_t to_simplexes(const uint64_t *cell) { return ts_to_simplexes(kind, cell, size, out, ROOM).refusal; }
+static uint64_t subentities(const uint64_t *cell) { return ts_subentities(kind, cell, size, out, ROOM, ends, ROOM).refusal; }
+static uint64_t to_poly(const uint64_t *cell) { return ts_to_poly(kind, cell, size, out, ROOM).refusal; }
+static uint64_t from_poly(const uint64_t *cell) { return ts_from_poly(kind, cell, size, out, ROOM).refusal; }
+static uint64_t in_plane(const uint64_t *cell) { return ts_reorient(kind, cell, size, 2, points, 8, out, ROOM).refusal; }
+static uint64_t in_space(const uint64_t *cell) { return ts_reorient(kind, cell, size, 3, points, 24, out, ROOM).refusal; }
 
 static const struct {
     const char *name;
     uint64_t kind;
     size_t nodes;
     void (*prepare)(void);
-    void (*call)(const uint64_t *);
+    uint64_t (*call)(const uint64_t *);
 } rows[] = {
     {"split_block, a brick", TS_HEX8, 8, plain, split_block},
     {"split_block, a wedge", TS_WEDGE6, 6, plain, split_block},
@@ -101,8 +102,9 @@ int main(int argc, char **argv) {
     random_cells(rows[row].kind, rows[row].nodes);
     rows[row].prepare();
     size_t calls = rows[row].call == split_block ? 1 : CELLS;
+    uint64_t refusal = 0;
     for (uint64_t rounds = strtoull(argv[2], NULL, 10); rounds > 0; rounds--)
         for (size_t i = 0; i < calls; i++)
-            rows[row].call(cells + i * size);
-    return 0;
+            refusal |= rows[row].call(cells + i * size);
+    return refusal != 0;
 }

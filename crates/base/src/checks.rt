@@ -74,7 +74,7 @@ fn holds_separator(ids: &[u64]) -> bool
 }
 
 // Whether a block is seen at once to have no separator, which has the highest bit: ids are small. To join
-// them takes half as long as to compare each. More ids than a block may have are not looked at.
+// them takes half the instructions of comparing each. More ids than a block may have are not looked at.
 fn is_clean(ids: &[u64]) -> bool
     ensures { λ r. ⌜ (r ≡ true → holdsSeparator (now (ids .entry)) ≡ false) ⌝ }
 {

@@ -57,7 +57,8 @@ fn write_hex(ids: &[u64], out: &mut [u64]) -> u64
     count
 }
 
-// How many tetrahedra a brick is cut into.
+// How many tetrahedra a brick is cut into. It goes the plain way, so that `renumber` has one caller, into
+// which the compiler takes it.
 pub fn count_hex(ids: &[u64]) -> u64
     ensures { λ r. ⌜ (r ≡ splitCount 15 (now (ids .entry))) × (r ≤ 6) ⌝ }
 {
