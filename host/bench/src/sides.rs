@@ -35,7 +35,7 @@ pub fn sides(what: &str, cases: Vec<Case>) -> Vec<Work> {
     let cases: &'static [Case] = cases.leak();
     let library = move || {
         for case in cases {
-            black_box(ours::call_over(black_box(case), &mut out, &mut ends));
+            ours::call_alone(black_box(case), &mut out, &mut ends);
         }
     };
     let rust = move || {
