@@ -2,4 +2,5 @@
 pub mod Parts
 pub mod Promised
 pub mod Halves
+mod Ahead
 mod Examples

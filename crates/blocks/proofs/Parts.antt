@@ -19,7 +19,7 @@ use Rattle.base.proofs.Accepted.{block-accepted}
 use Rattle.base.proofs.Lists.{overwrite-more}
 use Rattle.cuts.specs.Split.{cut, simplexes, split, splitCount, splitKind}
 use Rattle.cuts.specs.Demand3.{Cell, splits}
-use Rattle.cuts.proofs.Cuts.{split-length, three-rows, rows-most}
+use Rattle.cuts.proofs.Cuts.{split-length, three-rows, rows-most, hex-least}
 use Rattle.blocks.specs.Blocks.{cells, counts, splitBlockRefusal}
 
 pub splits-append : (cs ds : List Cell) → splits (cs ++ ds) ≡ splits cs ++ splits ds
@@ -193,6 +193,11 @@ hex-counts (suc n) ids = omega (arith, rows-most 15 (take (nodesOf 15) ids), hex
 pub brick-ids : (cell : List ℕ) → splitCount 15 cell * 4 ≡ length (split 15 cell)
 unfolding nodesOf splitKind
 brick-ids cell = four-of-one 15 refl cell
+
+-- a brick has at least five
+pub brick-least : (cell : List ℕ) → 20 ≤ length (split 15 cell)
+unfolding nodesOf splitKind splitCount cut
+brick-least cell = omega (arith, split-length 15 cell, hex-least cell)
 
 pub bricks-ids : (n : ℕ) (ids : List ℕ) → length (splits (cells 15 n ids)) ≡ counts (cells 15 n ids) * 4
 unfolding nodesOf splitKind

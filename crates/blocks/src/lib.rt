@@ -1,6 +1,7 @@
 // Blocks of cells of one kind, split cell by cell into one lent output.
 ghost use mathlib.Core.Path.{_≡_};
 ghost use mathlib.Core.Bool.{true};
+ghost use mathlib.Core.List.{_++_};
 ghost use Prim.Native.Nat.{_*_, _+_, _-_, _≤_, min};
 ghost use lib.Dec.{leb};
 ghost use lib.ListN.{drop, length, take};
@@ -10,8 +11,9 @@ ghost use Rattle.base.specs.Inner.Place.{putAt};
 ghost use Rattle.base.specs.Outcome.{Permits, overwrite};
 ghost use Rattle.cuts.specs.Demand3.{splits};
 ghost use Rattle.cuts.specs.Split.{split, splitCount};
-ghost use Rattle.cuts.specs.Inner.Strings.{hexStrings, quadStrings, turnStrings, wedgeStrings};
+ghost use Rattle.cuts.specs.Inner.Strings.{hexStrings, quadStrings, turnStrings, wedgePlace, wedgeStrings};
 ghost use Rattle.cuts.specs.Table.{hexPlace};
+ghost use Rattle.simplexes.specs.Inner.Written.{Ahead};
 ghost use Rattle.blocks.specs.Blocks.{cells, counts, splitBlock, splitBlockRefusal};
 ghost use Rattle.blocks.specs.Inner.Filled.{Filled};
 use base::checks::block_refusal;
@@ -24,6 +26,7 @@ use cuts::tables;
 use simplexes::cells::count_hex;
 use simplexes::solids::hex_row;
 use simplexes::solids::wedge_row;
+use simplexes::solids::write_hex_ahead;
 use simplexes::solids::write_hex_row;
 use simplexes::solids::write_wedge_row;
 
@@ -137,8 +140,8 @@ fn write_block(kind: u64, ids: &[u64], n: usize, out: &mut [u64]) -> u64
     n as u64
 }
 
-// The same for bricks. The next brick's row is found before this one is written, so that the search
-// for it and the writing run side by side.
+// The same for bricks. The row of the next brick but one is found beside the writing of this one, so that
+// no brick waits for its row. Behind every brick but the last, filler may be written that the next goes over.
 fn write_bricks(ids: &[u64], n: usize, out: &mut [u64]) -> u64
     requires { ⌜ n * 8 ≤ length (now ids) ⌝ }
     requires { ⌜ length (splits (cells 15 n (now ids))) ≤ length (now out) ⌝ }
@@ -150,16 +153,18 @@ fn write_bricks(ids: &[u64], n: usize, out: &mut [u64]) -> u64
     let table = tables::hex_table();
     let renumberings = tables::renumberings();
     let mut row = row_at(&renumberings, ids, 0);
+    let mut next_row = row_at(&renumberings, ids, lesser(1, n - 1));
     let mut at = 0;
     let mut i = 0;
-    while i < n {
-        let next_row = row_at(&renumberings, ids, lesser(i + 1, n - 1));
-        let tetrahedra = write_brick(&table, row, ids, i, out, at);
+    while i < n - 1 {
+        let tetrahedra = write_ahead(&table, row, ids, i, out, at);
         row = next_row;
+        next_row = row_at(&renumberings, ids, lesser(i + 2, n - 1));
         at += tetrahedra as usize * TET4_IDS;
         i += 1;
     }
-    (at / TET4_IDS) as u64
+    let last = write_brick(&table, row, ids, i, out, at);
+    (at / TET4_IDS) as u64 + last
 }
 
 fn lesser(a: usize, b: usize) -> usize
@@ -200,36 +205,73 @@ fn write_brick(
     write_hex_row(table, row, &ids[from..end], &mut out[at..])
 }
 
-// The same for wedges, three tetrahedra each.
+// The same, and behind them the filler of a row of five.
+fn write_ahead(
+    table: &[[u8; 24]; 64],
+    row: usize,
+    ids: &[u64],
+    i: usize,
+    out: &mut [u64],
+    at: usize,
+) -> u64
+    requires { ⌜ (now table ≡ hexStrings) × (row ≡ hexPlace (take 8 (drop (i * 8) (now ids)))) × (i * 8 + 8 ≤ length (now ids)) ⌝ }
+    requires { ⌜ at + 24 ≤ length (now out) ⌝ }
+    ensures { λ r. ⌜ r ≡ splitCount 15 (take 8 (drop (i * 8) (now (ids .entry)))) ⌝ }
+    ensures { λ _. ⌜ Ahead (take at (now (out .entry)) ++ split 15 (take 8 (drop (i * 8) (now (ids .entry))))) (now (out .entry)) (now (out .exit)) ⌝ }
+{
+    let from = i * Kind::HEX8_NODES;
+    let end = from + Kind::HEX8_NODES;
+    write_hex_ahead(table, row, &ids[from..end], &mut out[at..])
+}
+
+// The same for wedges, three tetrahedra each. The next wedge's row is found before this one is written.
 fn write_wedges(ids: &[u64], n: usize, out: &mut [u64])
     requires { ⌜ n * 6 ≤ length (now ids) ⌝ }
     requires { ⌜ length (splits (cells 13 n (now ids))) ≤ length (now out) ⌝ }
     ensures { λ _. ⌜ now (out .exit) ≡ overwrite (splits (cells 13 n (now (ids .entry)))) (now (out .entry)) ⌝ }
 {
+    if n == 0 {
+        return;
+    }
     let table = tables::wedge_table();
     let quads = tables::wedge_quads();
+    let mut row = wedge_row_at(&quads, ids, 0);
+    let mut at = 0;
     let mut i = 0;
-    while i < n {
-        write_wedge(&table, &quads, ids, i, out, i * WEDGE6_IDS);
+    while i < n - 1 {
+        let next_row = wedge_row_at(&quads, ids, i + 1);
+        write_wedge(&table, row, ids, i, out, at);
+        row = next_row;
+        at += WEDGE6_IDS;
         i += 1;
     }
+    write_wedge(&table, row, ids, i, out, at);
 }
 
-// The tetrahedra of wedge i into the part of out that starts at `at`.
+// The row of the wedge's table for wedge i.
+fn wedge_row_at(quads: &[[u8; 4]; 6], ids: &[u64], i: usize) -> usize
+    requires { ⌜ (now quads ≡ quadStrings) × (i * 6 + 6 ≤ length (now ids)) ⌝ }
+    ensures { λ r. ⌜ r ≡ wedgePlace (take 6 (drop (i * 6) (now (ids .entry)))) ⌝ }
+{
+    let from = i * Kind::WEDGE6_NODES;
+    let end = from + Kind::WEDGE6_NODES;
+    wedge_row(quads, &ids[from..end])
+}
+
+// The tetrahedra of wedge i by its row into the part of out that starts at `at`.
 fn write_wedge(
     table: &[[u8; 12]; 12],
-    quads: &[[u8; 4]; 6],
+    row: usize,
     ids: &[u64],
     i: usize,
     out: &mut [u64],
     at: usize,
 )
-    requires { ⌜ (now table ≡ wedgeStrings) × (now quads ≡ quadStrings) × (i * 6 + 6 ≤ length (now ids)) ⌝ }
+    requires { ⌜ (now table ≡ wedgeStrings) × (row ≡ wedgePlace (take 6 (drop (i * 6) (now ids)))) × (i * 6 + 6 ≤ length (now ids)) ⌝ }
     requires { ⌜ at + length (split 13 (take 6 (drop (i * 6) (now ids)))) ≤ length (now out) ⌝ }
     ensures { λ _. ⌜ now (out .exit) ≡ putAt (split 13 (take 6 (drop (i * 6) (now (ids .entry))))) at (now (out .entry)) ⌝ }
 {
     let from = i * Kind::WEDGE6_NODES;
     let end = from + Kind::WEDGE6_NODES;
-    let row = wedge_row(quads, &ids[from..end]);
     write_wedge_row(table, row, &ids[from..end], &mut out[at..])
 }

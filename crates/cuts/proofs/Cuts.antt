@@ -93,6 +93,12 @@ hex-most case =
     let h : min case 7 < 8 = omega arith in
     leb→le _ 6 (below-at 8 (λ k. leb (length (getD hexRows k [])) 6) tt (min case 7) h)
 
+-- and at least five
+pub hex-least : (ids : List ℕ) → 5 ≤ length (hexCut ids .rows)
+hex-least ids =
+    let h : min (hexCase (renumbered ids)) 7 < 8 = omega arith in
+    leb→le 5 _ (below-at 8 (λ k. leb 5 (length (getD hexRows k []))) tt (min (hexCase (renumbered ids)) 7) h)
+
 -- what holds of both outcomes of a test holds of its outcome
 either : {A : Type 0} (P : A → Type 0) (b : Bool) {x y : A} → P x → P y → P (cond b x y)
 either P true p q = p

@@ -95,9 +95,10 @@ pub fn first_diagonal(ids: &[u64], quad: [u8; 4]) -> bool
     on_first(four[0], four[1], four[2], four[3])
 }
 
-// Whether the smallest of four ids is a or c. On a tie the first place counts, so b goes before c.
+// Whether the smallest of four ids is a or c. On a tie the first place counts, so b goes before c. Each test
+// is by <, whose outcome the processor has in one step where <= takes it two.
 pub fn on_first(a: u64, b: u64, c: u64, d: u64) -> bool
     ensures { λ r. ⌜ r ≡ firstDiagonal (a ∷ b ∷ c ∷ d ∷ []) ⌝ }
 {
-    ((a <= b) & (a <= d)) | ((c <= d) & (c < b))
+    (!(b < a) & !(d < a)) | (!(d < c) & (c < b))
 }

@@ -8,7 +8,7 @@ ghost use Rattle.cuts.specs.Inner.Strings.{Within, hexStrings, quadStrings, tur
 ghost use Rattle.cuts.specs.Smallest.{firstDiagonal};
 ghost use Rattle.cuts.specs.Split.{hexCut, simplexes, wedgeCut};
 ghost use Rattle.cuts.specs.Table.{hexPlace};
-ghost use Rattle.simplexes.specs.Inner.Written.{Written};
+ghost use Rattle.simplexes.specs.Inner.Written.{Ahead, Written};
 use super::cells::hex_case;
 use super::cells::second;
 use super::smallest::on_first;
@@ -37,6 +37,21 @@ pub fn write_hex_row(table: &[[u8; 24]; 64], row: usize, ids: &[u64], out: &mut 
     put(ids, &table[row], count as usize, out);
     count
 }
+
+// The same with all six tetrahedra of the row, of which the last is filler where five count: their number
+// cannot be guessed, and so there is no branch on it. The next brick goes over the filler.
+pub fn write_hex_ahead(table: &[[u8; 24]; 64], row: usize, ids: &[u64], out: &mut [u64]) -> u64
+    requires { ⌜ (now table ≡ hexStrings) × (length (now ids) ≡ 8) × (row ≡ hexPlace (now ids)) ⌝ }
+    requires { ⌜ 24 ≤ length (now out) ⌝ }
+    ensures { λ r. ⌜ r ≡ length (hexCut (now (ids .entry)) .rows) ⌝ }
+    ensures { λ _. ⌜ Ahead (simplexes 4 (hexCut (now (ids .entry)))) (now (out .entry)) (now (out .exit)) ⌝ }
+{
+    put(ids, &table[row], HEX_ROWS, out);
+    row_count(row)
+}
+
+// How many tetrahedra a row of the brick's table has room for.
+const HEX_ROWS: usize = 6;
 
 // The row of the wedge's table that a wedge is cut by.
 pub fn wedge_row(quads: &[[u8; 4]; 6], ids: &[u64]) -> usize
