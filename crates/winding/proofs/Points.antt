@@ -3,13 +3,14 @@ use mathlib.Core.Path.{_≡_, refl, _∙_}
 use mathlib.Core.Bool.{Bool, true, false, cond, not, _&&_, _||_, true≢false}
 use mathlib.Core.Logic.{_⊎_, inl, inr}
 use mathlib.Core.List.{List, [], _∷_}
-use Prim.Native.Nat.{ℕ, zero, suc, _+_, _-_, _<_, _≤_}
-use native.Mathlib.Nat.{le-of-suc-le-suc, not-suc-le-zero}
+use Prim.Native.Nat.{ℕ, zero, suc, _+_, _-_, _%_, _^_, _<_, _≤_, zero-le}
+use native.Mathlib.Nat.{le-of-suc-le-suc, not-suc-le-zero, mod-eq-of-lt}
+use native.Mathlib.Numerals.{add-one}
 use native.Mathlib.Omega.{arith}
-use lib.Dec.{T, eqb, ltb, leb, ltb→lt, nltb→le}
+use lib.Dec.{T, eqb, ltb, leb, leb·suc-suc, ltb→lt, nltb→le}
 use lib.ListN.{length, getD, drop, length-drop}
 use lib.Seq.{length-take-le, getD-take, getD-drop}
-use borrow.Author.Tests.{eqb-true, eqb-false, eq-eqb, ne-eqb, leb-false}
+use borrow.Author.Tests.{eqb-true, eqb-false, eq-eqb, ne-eqb, le-ltb, leb-false}
 use Rattle.base.specs.Kinds.{separator}
 use Rattle.base.specs.Checks.{holdsSeparator}
 use Rattle.faces.specs.declared.Face.{Face}
@@ -43,6 +44,16 @@ or-false-left false b h = refl
 pub or-false-right : (a b : Bool) → (a || b) ≡ false → b ≡ false
 or-false-right true b h = absurd (true≢false h)
 or-false-right false b h = h
+
+-- one more than an id, which at the separator wraps to 0, is above the count where the id has none of so many points
+pub wrapped-test : (count id : ℕ) → id ≤ separator → ltb count ((id + 1) % 2 ^ 64) ≡ (not (eqb id separator) && leb count id)
+wrapped-test count id h = go (same id separator)
+  where
+    go : (id ≡ separator) ⊎ (id ≡ separator → ⊥) → ltb count ((id + 1) % 2 ^ 64) ≡ (not (eqb id separator) && leb count id)
+    go (inl s) = rw s (le-ltb count 0 zero-le)
+    go (inr s) =
+        let e : (id + 1) % 2 ^ 64 ≡ suc id = mod-eq-of-lt (omega arith) ∙ add-one id in
+        rw (e, ne-eqb id separator s) (leb·suc-suc count id)
 
 -- each id has a point
 pub placed-ids : (count : ℕ) (ids : List ℕ) → lacksPoint count ids ≡ false

@@ -3,8 +3,8 @@ use mathlib.Core.Path.{_≡_, refl, sym, ap, _∙_}
 use mathlib.Core.List.{List, [], _∷_, _++_, reverse, reverse-cons}
 use mathlib.Core.Bool.{Bool, true, false, cond}
 use mathlib.Core.Logic.{_⊎_, inl, inr}
-use Prim.Native.Nat.{ℕ, suc, _+_, _-_, _<_}
-use native.Mathlib.Nat.{eq-or-lt-of-le, le-of-suc-le-suc}
+use Prim.Native.Nat.{ℕ, suc, _+_, _-_, _%_, _^_, _<_, _≤_}
+use native.Mathlib.Nat.{eq-or-lt-of-le, le-of-suc-le-suc, sub-zero, add-mod-right, mod-eq-of-lt}
 use native.Mathlib.Omega.{arith}
 use lib.ListN.{length, getD, length-reverse, List·getD-append}
 use lib.Seq.{getD-at}
@@ -33,6 +33,19 @@ getD-reverse (x ∷ xs) i h =
     go (inr l) ih =
         List·getD-append (reverse xs) (x ∷ []) 0 i (omega (arith, length-reverse xs)) ∙ ih l
         ∙ sym (ap (λ (k : ℕ). getD (x ∷ xs) k 0) (before (length xs) i l))
+
+-- which entry is written first
+pub source-start : (b : Bool) (n : ℕ) → cond b (n - 1) 0 ≡ cond b (n - 1 - 0) 0
+source-start true n = sym (sub-zero (n - 1))
+source-start false n = refl
+
+-- the entry that is written at the next place, by a step that may wrap
+pub source-step : (b : Bool) (n i : ℕ) → n < 2 ^ 64 → i + 1 < n
+    → (cond b (n - 1 - i) i + cond b (2 ^ 64 - 1) 1) % 2 ^ 64 ≡ cond b (n - 1 - (i + 1)) (i + 1)
+source-step true n i most h =
+    let e : n - 1 - i + (2 ^ 64 - 1) ≡ n - 1 - (i + 1) + 2 ^ 64 = omega arith in
+    rw e (add-mod-right (n - 1 - (i + 1)) (2 ^ 64) ∙ mod-eq-of-lt (omega arith))
+source-step false n i most h = mod-eq-of-lt (omega arith)
 
 -- the entry that is written at place i stands within the list
 pub source-lt : (b : Bool) (n i : ℕ) → i < n → cond b (n - 1 - i) i < n

@@ -89,7 +89,15 @@ fn wants_point(kind: u64, ids: &[u64], dimension: u64, n: usize) -> bool
 fn turns_in_plane(kind: u64, dimension: u64) -> bool
     ensures { λ r. ⌜ r ≡ turnsInPlane kind dimension ⌝ }
 {
-    (dimension == IN_PLANE) & ((kind == Kind::TRI3) | (kind == Kind::QUAD4) | (kind == Kind::PGON))
+    if dimension != IN_PLANE {
+        return false;
+    }
+    match kind {
+        Kind::TRI3 => true,
+        Kind::QUAD4 => true,
+        Kind::PGON => true,
+        _ => false,
+    }
 }
 
 fn turns_in_space(kind: u64, dimension: u64) -> bool

@@ -5,7 +5,6 @@ ghost use lib.Ieee.{lt};
 ghost use Rattle.winding.specs.Points.{pointCount};
 ghost use Rattle.winding.specs.Inner.Scan.{Placed};
 ghost use Rattle.winding.specs.Plane.{cross as crossOf, signedArea2, zero64};
-use super::cycle::next_node;
 use super::point::IN_PLANE;
 use super::point::Point;
 use super::point::point_at;
@@ -24,15 +23,20 @@ fn signed_area2(points: &[f64], ids: &[u64]) -> f64
     requires { ⌜ Placed (pointCount 2 (length (now points))) (now ids) ⌝ }
     ensures { λ r. ⌜ r ≡ signedArea2 (now (points .entry)) (now (ids .entry)) ⌝ }
 {
+    if ids.len() == 0 {
+        return 0.0;
+    }
+    let first = point_at(points, IN_PLANE, ids[0]);
+    let mut from = first;
     let mut area2 = 0.0;
-    let mut i = 0;
+    let mut i = 1;
     while i < ids.len() {
-        let from = point_at(points, IN_PLANE, ids[i]);
-        let to = point_at(points, IN_PLANE, next_node(ids, i));
+        let to = point_at(points, IN_PLANE, ids[i]);
         area2 = area2 + cross(from, to);
+        from = to;
         i += 1;
     }
-    area2 / 2.0
+    (area2 + cross(from, first)) / 2.0
 }
 
 // x0 * y1 - x1 * y0.

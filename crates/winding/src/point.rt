@@ -6,7 +6,6 @@ ghost use lib.Dec.{eqb, leb};
 ghost use lib.ListN.{length};
 ghost use Rattle.base.specs.Kinds.{separator};
 ghost use Rattle.winding.specs.Points.{lacksPoint, pointAt, pointCount, pointsFit};
-use base::kinds::Kind;
 
 // A point in the plane or in space.
 pub enum Point {
@@ -46,25 +45,26 @@ pub fn point_count(dimension: u64, n: usize) -> usize
     if dimension == IN_PLANE { n / 2 } else { n / 3 }
 }
 
-// Whether some id of the list has none of so many points. The whole list is read with no early
-// end, so that the loop has no branch to mispredict.
+// Whether some id of the list has none of so many points.
 pub fn lacks_point(count: usize, ids: &[u64]) -> bool
     ensures { λ r. ⌜ r ≡ lacksPoint count (now (ids .entry)) ⌝ }
 {
-    let mut found = false;
     let mut i = 0;
     while i < ids.len() {
-        found = found | has_none(count, ids[i]);
+        if has_none(count, ids[i]) {
+            return true;
+        }
         i += 1;
     }
-    found
+    false
 }
 
-// Whether an entry is an id with none of so many points.
+// Whether an entry is an id with none of so many points. One test does for both: the separator is the
+// highest number, and one more wraps to 0.
 fn has_none(count: usize, id: u64) -> bool
     ensures { λ r. ⌜ r ≡ (not (eqb id separator) && leb count id) ⌝ }
 {
-    (id != Kind::SEPARATOR) & (count as u64 <= id)
+    (count as u64) < std::num::wrapping_add_u64(id, 1)
 }
 
 // The point of an id, read from the point list.

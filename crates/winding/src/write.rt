@@ -20,26 +20,41 @@ use super::space::looks_in;
 use base::kinds::Kind;
 use faces::next_face;
 
-// The run as it is or back to front, over what out has from a place on.
+// The run as it is or back to front, over what out has from a place on. The entry that is read moves by
+// a step that is settled before the loop, so that the loop has no branch on `back`, which would be
+// guessed wrong half of the time.
 pub fn put_run(run: &[u64], back: bool, out: &mut [u64], at: usize)
     requires { ⌜ at + length (now run) ≤ length (now out) ⌝ }
     ensures { λ _. ⌜ now (out .exit) ≡ paste (now (out .entry)) at (turned back (now (run .entry))) (length (now (run .entry))) ⌝ }
 {
     let n = run.len();
+    if n == 0 {
+        return;
+    }
+    let step = step_of(back);
+    let mut k = start_of(back, n);
     let mut i = 0;
     while i < n {
-        let k = source(back, n, i);
         out[at + i] = run[k];
+        k = std::num::wrapping_add_usize(k, step);
         i += 1;
     }
 }
 
-// Which entry of a run of n is written at place i.
-fn source(back: bool, n: usize, i: usize) -> usize
-    requires { ⌜ i < n ⌝ }
-    ensures { λ r. ⌜ r ≡ cond back (n - 1 - i) i ⌝ }
+// Which entry of a run of n is written first.
+fn start_of(back: bool, n: usize) -> usize
+    requires { ⌜ 0 < n ⌝ }
+    ensures { λ r. ⌜ r ≡ cond back (n - 1) 0 ⌝ }
 {
-    if back { n - 1 - i } else { i }
+    if back { n - 1 } else { 0 }
+}
+
+// What leads from one entry to the next when it is added: 1, or the highest number, which wraps and so
+// leads one back.
+fn step_of(back: bool) -> usize
+    ensures { λ r. ⌜ r ≡ cond back 18446744073709551615 1 ⌝ }
+{
+    if back { usize::MAX } else { 1 }
 }
 
 // How many entries the faces take in one list, a separator between two.
