@@ -2,6 +2,7 @@
 pub mod Tables
 pub mod PolyFaces
 pub mod PolyEdges
+pub mod Halves
 mod Fitting
 mod Sides
 mod Apart

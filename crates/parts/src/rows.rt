@@ -16,22 +16,8 @@ use super::subentities::refused;
 use base::kinds::Kind;
 use base::refusals::Refusal;
 
-// The sub-entities of an element that is not refused.
-pub fn table_parts(kind: u64, codim: u64, ids: &[u64], out: &mut [u64]) -> Parts
-    requires { ⌜ elementRefusal kind (now ids) ≡ 0 ⌝ }
-    ensures { λ r. ⌜ Permits (toFirst (tableParts kind codim (now (ids .entry))) (now (out .entry))) r (now (out .exit)) ⌝ }
-{
-    match codim {
-        0 => given(0, 0),
-        1 => first_parts(kind, ids, out),
-        2 => second_parts(kind, ids, out),
-        3 => third_parts(kind, ids, out),
-        _ => given(0, 0),
-    }
-}
-
 // Codimension 1: the ends of a segment, the sides of a face, the faces of a cell. The other kinds have none.
-fn first_parts(kind: u64, ids: &[u64], out: &mut [u64]) -> Parts
+pub fn first_parts(kind: u64, ids: &[u64], out: &mut [u64]) -> Parts
     requires { ⌜ elementRefusal kind (now ids) ≡ 0 ⌝ }
     ensures { λ r. ⌜ Permits (toFirst (tableParts kind 1 (now (ids .entry))) (now (out .entry))) r (now (out .exit)) ⌝ }
 {
@@ -51,7 +37,7 @@ fn first_parts(kind: u64, ids: &[u64], out: &mut [u64]) -> Parts
 }
 
 // Codimension 2: the vertices of a face, the edges of a cell.
-fn second_parts(kind: u64, ids: &[u64], out: &mut [u64]) -> Parts
+pub fn second_parts(kind: u64, ids: &[u64], out: &mut [u64]) -> Parts
     requires { ⌜ elementRefusal kind (now ids) ≡ 0 ⌝ }
     ensures { λ r. ⌜ Permits (toFirst (tableParts kind 2 (now (ids .entry))) (now (out .entry))) r (now (out .exit)) ⌝ }
 {
@@ -68,7 +54,7 @@ fn second_parts(kind: u64, ids: &[u64], out: &mut [u64]) -> Parts
 }
 
 // Codimension 3: the vertices of a cell.
-fn third_parts(kind: u64, ids: &[u64], out: &mut [u64]) -> Parts
+pub fn third_parts(kind: u64, ids: &[u64], out: &mut [u64]) -> Parts
     requires { ⌜ elementRefusal kind (now ids) ≡ 0 ⌝ }
     ensures { λ r. ⌜ Permits (toFirst (tableParts kind 3 (now (ids .entry))) (now (out .entry))) r (now (out .exit)) ⌝ }
 {

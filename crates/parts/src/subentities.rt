@@ -1,17 +1,20 @@
 // The sub-entities of an element at a codimension.
 ghost use mathlib.Core.Path.{_≡_};
-ghost use mathlib.Core.Bool.{_&&_};
+ghost use mathlib.Core.Bool.{false, _&&_};
 ghost use Prim.Native.Nat.{_≤_};
-ghost use lib.Dec.{leb};
+ghost use lib.Dec.{eqb, leb};
 ghost use lib.ListN.{length};
 ghost use Rattle.base.specs.Kinds.{elementLimit};
 ghost use Rattle.base.specs.Outcome.{Permits};
 ghost use Rattle.parts.specs.Subentities.{codimOf, codimRefusal, depth, pgonParts, phedParts, refusedParts, subentitiesOutcome, subentitiesRefusal};
-ghost use Rattle.parts.specs.Inner.Lent.{toBoth, toFirst};
+ghost use Rattle.parts.specs.Inner.Lent.{outOnly, toBoth, toFirst};
+ghost use Rattle.parts.specs.declared.subentities.Codimension.the-variants.{Absent};
 use super::phed::tally_faces;
 use super::phed::write_faces;
 use super::polygon::write_sides;
-use super::rows::table_parts;
+use super::rows::first_parts;
+use super::rows::second_parts;
+use super::rows::third_parts;
 use base::checks::element_refusal;
 use base::kinds::Kind;
 use base::lent::copy;
@@ -46,7 +49,19 @@ pub fn subentities(
     ensures { λ r. ⌜ Permits (subentitiesOutcome kind codim (now (ids .entry)) (now (out .entry), now (ends .entry))) r (now (out .exit), now (ends .exit)) ⌝ }
 {
     let codim = codim_of(codim);
-    let why = subentities_refusal(kind, codim, ids);
+    if codim == 1 {
+        return boundary(kind, ids, out, ends);
+    }
+    deeper(kind, codim, ids, out)
+}
+
+// The half at codimension 1, which an absent one means too. There are halves because the C interface
+// has an entry point of its own for this one: a function with one caller there is taken into it, so
+// that the answer is not copied on the way.
+pub fn boundary(kind: u64, ids: &[u64], out: &mut [u64], ends: &mut [u64]) -> Parts
+    ensures { λ r. ⌜ Permits (subentitiesOutcome kind Absent (now (ids .entry)) (now (out .entry), now (ends .entry))) r (now (out .exit), now (ends .exit)) ⌝ }
+{
+    let why = boundary_refusal(kind, ids);
     if why != 0 {
         return refused(why);
     }
@@ -54,9 +69,27 @@ pub fn subentities(
         return phed_parts(ids, out, ends);
     }
     if kind == Kind::PGON {
-        return pgon_parts(codim, ids, out);
+        return pgon_sides(ids, out);
     }
-    table_parts(kind, codim, ids, out)
+    first_parts(kind, ids, out)
+}
+
+// The half at every other codimension, where no ends are written.
+pub fn deeper(kind: u64, codim: u64, ids: &[u64], out: &mut [u64]) -> Parts
+    requires { ⌜ eqb codim 1 ≡ false ⌝ }
+    ensures { λ r. ⌜ Permits (outOnly kind codim (now (ids .entry)) (now (out .entry))) r (now (out .exit)) ⌝ }
+{
+    let why = subentities_refusal(kind, codim, ids);
+    if why != 0 {
+        return refused(why);
+    }
+    if kind == Kind::PGON {
+        return pgon_nodes(ids, out);
+    }
+    if codim == 2 {
+        return second_parts(kind, ids, out);
+    }
+    third_parts(kind, ids, out)
 }
 
 fn codim_of(codim: Codimension) -> u64
@@ -78,6 +111,21 @@ pub fn refused(refusal: u64) -> Parts
         kind2: 0,
         count2: 0,
     }
+}
+
+// The first of the refusals 1 to 4 and 6 that the input meets at codimension 1, or 0. A kind with a
+// table has that codimension, so that 5 is not among them.
+fn boundary_refusal(kind: u64, ids: &[u64]) -> u64
+    ensures { λ r. ⌜ r ≡ subentitiesRefusal kind 1 (now (ids .entry)) ⌝ }
+{
+    let why = element_refusal(kind, ids);
+    if why != 0 {
+        return why;
+    }
+    if depth(kind) == 0 {
+        return Refusal::NO_RULE;
+    }
+    0
 }
 
 // The first of the refusals 1 to 6 that the input meets, or 0.
@@ -146,21 +194,7 @@ fn depth(kind: u64) -> u64
     }
 }
 
-// The sides of a polygon, or else its vertices.
-fn pgon_parts(codim: u64, ids: &[u64], out: &mut [u64]) -> Parts
-    requires { ⌜ length (now ids) ≤ elementLimit ⌝ }
-    ensures { λ r. ⌜ Permits (toFirst (pgonParts codim (now (ids .entry))) (now (out .entry))) r (now (out .exit)) ⌝ }
-{
-    if codim == 1 {
-        return pgon_sides(ids, out);
-    }
-    if out.len() < ids.len() {
-        return refused(Refusal::SHORT_OUTPUT);
-    }
-    copy(ids, out);
-    given(Kind::VERTEX, ids.len())
-}
-
+// The sides of a polygon.
 fn pgon_sides(ids: &[u64], out: &mut [u64]) -> Parts
     requires { ⌜ length (now ids) ≤ elementLimit ⌝ }
     ensures { λ r. ⌜ Permits (toFirst (pgonParts 1 (now (ids .entry))) (now (out .entry))) r (now (out .exit)) ⌝ }
@@ -171,6 +205,17 @@ fn pgon_sides(ids: &[u64], out: &mut [u64]) -> Parts
     }
     write_sides(ids, out);
     given(Kind::SEG2, n)
+}
+
+// The vertices of a polygon, in their order.
+fn pgon_nodes(ids: &[u64], out: &mut [u64]) -> Parts
+    ensures { λ r. ⌜ Permits (toFirst (pgonParts 2 (now (ids .entry))) (now (out .entry))) r (now (out .exit)) ⌝ }
+{
+    if out.len() < ids.len() {
+        return refused(Refusal::SHORT_OUTPUT);
+    }
+    copy(ids, out);
+    given(Kind::VERTEX, ids.len())
 }
 
 // The faces of a polyhedron, with where each ends.

@@ -11,7 +11,6 @@ ghost use Rattle.cuts.specs.Split.{toSimplexes};
 ghost use Rattle.winding.specs.Reorient.{reorientOutcome};
 ghost use Rattle.tallyspool.specs.Record.{splitRecord};
 use base::refusals::Answer;
-use parts::subentities::Codimension;
 use parts::subentities::Parts;
 
 mod record;
@@ -21,10 +20,10 @@ mod record;
 pub extern "C" fn ts_subentities(kind: u64, ids: &[u64], out: &mut [u64], ends: &mut [u64]) -> Parts
     ensures { λ r. ⌜ Permits (subentitiesOutcome kind Absent (now (ids .entry)) (now (out .entry), now (ends .entry))) r (now (out .exit), now (ends .exit)) ⌝ }
 {
-    parts::subentities::subentities(kind, Codimension::Absent, ids, out, ends)
+    parts::subentities::boundary(kind, ids, out, ends)
 }
 
-// The sub-entities at a codimension.
+// The sub-entities at a codimension. At 1 the entry point above answers, so that it alone calls that half.
 #[no_mangle]
 pub extern "C" fn ts_subentities_of(
     kind: u64,
@@ -35,7 +34,10 @@ pub extern "C" fn ts_subentities_of(
 ) -> Parts
     ensures { λ r. ⌜ Permits (subentitiesOutcome kind (Of codim) (now (ids .entry)) (now (out .entry), now (ends .entry))) r (now (out .exit), now (ends .exit)) ⌝ }
 {
-    parts::subentities::subentities(kind, Codimension::Of(codim), ids, out, ends)
+    if codim == 1 {
+        return ts_subentities(kind, ids, out, ends);
+    }
+    parts::subentities::deeper(kind, codim, ids, out)
 }
 
 // The poly form.
