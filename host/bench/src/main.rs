@@ -41,7 +41,7 @@ fn rows() -> Vec<Row> {
         ("to_poly, a brick", cells(ToPoly, HEX8), &[Times(1.0)]),
         ("reorient, QUAD4 in the plane", inputs::quads_in_plane(), &[Times(4.0)]),
         ("reorient, a brick as PHED in space", inputs::bricks_in_space(), &[Times(4.0)]),
-        ("reorient, a torus of 4,094 entries", vec![inputs::torus_in_space(21, 39)], &[Times(4.0)]),
+        ("reorient, a torus of 4,094 entries", vec![inputs::torus_in_space(21, 39)], &[]),
     ]
 }
 

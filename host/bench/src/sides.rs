@@ -33,17 +33,59 @@ pub fn sides(what: &str, cases: Vec<Case>) -> Vec<Work> {
         }
     }
     let cases: &'static [Case] = cases.leak();
-    let library = move || {
-        for case in cases {
-            ours::call_alone(black_box(case), &mut out, &mut ends);
-        }
-    };
-    let rust = move || {
-        for (case, nodes) in cases.iter().zip(&nodes) {
-            rust(case, black_box(nodes));
-        }
-    };
-    vec![Box::new(library), Box::new(rust)]
+    vec![library(cases, out, ends), rust(cases, nodes)]
+}
+
+/// The library's calls. Which one it is, is settled before any is timed, and an answer is left where the
+/// library put it: it is stored by 8 bytes, and a copy by 16 would wait until all is written.
+fn library(cases: &'static [Case], mut out: Vec<u64>, mut ends: Vec<u64>) -> Work {
+    fn each<A>(cases: &'static [Case], mut call: impl FnMut(&Case) -> A + 'static) -> Work {
+        Box::new(move || {
+            for case in cases {
+                black_box(&call(black_box(case)));
+            }
+        })
+    }
+    match cases[0].operation {
+        Operation::Subentities => each(cases, move |c| ours::subentities(c, &mut out, &mut ends)),
+        Operation::ToPoly => each(cases, move |c| ours::to_poly(c, &mut out)),
+        Operation::FromPoly => each(cases, move |c| ours::from_poly(c, &mut out)),
+        Operation::ToSimplexes => each(cases, move |c| ours::to_simplexes(c, &mut out)),
+        Operation::Reorient => each(cases, move |c| ours::reorient(c, &mut out)),
+        Operation::SplitBlock => each(cases, move |c| ours::split_block(c, &mut out)),
+        Operation::SubentitiesOf | Operation::SplitRecord => unreachable!("they have no row"),
+    }
+}
+
+/// The Rust's calls; a block is split cell by cell. Nothing is done with an answer but to drop it.
+fn rust(cases: &'static [Case], nodes: Vec<Vec<usize>>) -> Work {
+    fn each(
+        cases: &'static [Case],
+        nodes: Vec<Vec<usize>>,
+        call: impl Fn(Element<'_>) + 'static,
+    ) -> Work {
+        Box::new(move || {
+            for (case, nodes) in cases.iter().zip(&nodes) {
+                call(element(case, black_box(nodes)));
+            }
+        })
+    }
+    let (kind, dimension) = (cases[0].kind as usize, cases[0].parameter as usize);
+    match cases[0].operation {
+        Operation::Subentities => each(cases, nodes, |e| drop(black_box(e.subentities(None)))),
+        Operation::ToPoly => each(cases, nodes, |e| drop(black_box(e.to_poly()))),
+        Operation::FromPoly => each(cases, nodes, |e| drop(black_box(e.from_poly()))),
+        Operation::ToSimplexes => each(cases, nodes, |e| drop(black_box(e.to_simplexes()))),
+        Operation::Reorient => each(cases, nodes, move |e| {
+            drop(black_box(wound_alone(e, e.coords, dimension)))
+        }),
+        Operation::SplitBlock => each(cases, nodes, move |block| {
+            for nodes in block.nodes.chunks(NODES[kind]) {
+                drop(black_box(Element { nodes, ..block }.to_simplexes()))
+            }
+        }),
+        Operation::SubentitiesOf | Operation::SplitRecord => unreachable!("they have no row"),
+    }
 }
 
 /// A copy of as many ids.
@@ -75,26 +117,5 @@ fn element<'a>(case: &'a Case, nodes: &'a [usize]) -> Element<'a> {
         kind: ElementType::ALL[case.kind as usize - 1],
         nodes,
         coords: ArrayView2::from_rows(&case.points, case.parameter as usize),
-    }
-}
-
-/// The Rust's call; a block is split cell by cell. Nothing is done with an answer but to drop it.
-fn rust(case: &Case, nodes: &[usize]) {
-    let cell = element(case, nodes);
-    match case.operation {
-        Operation::Subentities => drop(black_box(cell.subentities(None))),
-        Operation::ToPoly => drop(black_box(cell.to_poly())),
-        Operation::FromPoly => drop(black_box(cell.from_poly())),
-        Operation::ToSimplexes => drop(black_box(cell.to_simplexes())),
-        Operation::Reorient => {
-            let dimension = case.parameter as usize;
-            drop(black_box(wound_alone(cell, cell.coords, dimension)))
-        }
-        Operation::SplitBlock => {
-            for nodes in nodes.chunks(NODES[case.kind as usize]) {
-                drop(black_box(Element { nodes, ..cell }.to_simplexes()))
-            }
-        }
-        Operation::SubentitiesOf | Operation::SplitRecord => unreachable!("they have no row"),
     }
 }

@@ -4,7 +4,7 @@ use std::time::{Duration, Instant};
 
 pub type Work = Box<dyn FnMut()>;
 
-const ROUNDS: usize = 20;
+const ROUNDS: usize = 60;
 /// In each round a work runs again and again for so long, and at least twice.
 const SPELL: Duration = Duration::from_millis(10);
 

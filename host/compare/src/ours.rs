@@ -1,18 +1,16 @@
 //! The library, through its C interface.
 
-use std::hint::black_box;
-
 use crate::case::{Case, Numbers, Operation, Outcome, lent};
 
 #[repr(C)]
-struct Answer {
+pub struct Answer {
     refusal: u64,
     kind: u64,
     count: u64,
 }
 
 #[repr(C)]
-struct Parts {
+pub struct Parts {
     refusal: u64,
     kind: u64,
     count: u64,
@@ -70,79 +68,80 @@ pub fn call(case: &Case, n_out: usize, n_ends: usize) -> Outcome {
 /// The call over the caller's outputs.
 pub fn call_over(case: &Case, out: &mut [u64], ends: &mut [u64]) -> Numbers {
     match case.operation {
-        Operation::Subentities | Operation::SubentitiesOf => {
-            let p = parts(case, out, ends);
-            Numbers {
-                refusal: p.refusal,
-                kind: p.kind,
-                count: p.count,
-                kind2: p.kind2,
-                count2: p.count2,
-            }
-        }
-        _ => {
-            let a = answer(case, out);
-            Numbers {
-                refusal: a.refusal,
-                kind: a.kind,
-                count: a.count,
-                ..Default::default()
-            }
-        }
+        Operation::Subentities => of_parts(subentities(case, out, ends)),
+        Operation::SubentitiesOf => of_parts(subentities_of(case, out, ends)),
+        Operation::ToPoly => of_answer(to_poly(case, out)),
+        Operation::FromPoly => of_answer(from_poly(case, out)),
+        Operation::ToSimplexes => of_answer(to_simplexes(case, out)),
+        Operation::Reorient => of_answer(reorient(case, out)),
+        Operation::SplitBlock => of_answer(split_block(case, out)),
+        Operation::SplitRecord => of_answer(split_record(case, out)),
     }
 }
 
-/// The same with the answer left where the library put it, for a caller that only waits for it. To copy
-/// it would be timed too: it is stored by 8 bytes, and a copy by 16 has to wait until all is written.
-pub fn call_alone(case: &Case, out: &mut [u64], ends: &mut [u64]) {
-    match case.operation {
-        Operation::Subentities | Operation::SubentitiesOf => {
-            black_box(&parts(case, out, ends));
-        }
-        _ => {
-            black_box(&answer(case, out));
-        }
+fn of_parts(p: Parts) -> Numbers {
+    Numbers {
+        refusal: p.refusal,
+        kind: p.kind,
+        count: p.count,
+        kind2: p.kind2,
+        count2: p.count2,
+    }
+}
+
+fn of_answer(a: Answer) -> Numbers {
+    Numbers {
+        refusal: a.refusal,
+        kind: a.kind,
+        count: a.count,
+        ..Default::default()
     }
 }
 
 #[inline(always)]
-fn parts(case: &Case, out: &mut [u64], ends: &mut [u64]) -> Parts {
+pub fn subentities(case: &Case, out: &mut [u64], ends: &mut [u64]) -> Parts {
     let (ids, n) = (case.ids.as_ptr(), case.ids.len());
     let (o, m, e, k) = (out.as_mut_ptr(), out.len(), ends.as_mut_ptr(), ends.len());
     // SAFETY: every pointer is that of a whole vector with its length, and no two overlap.
-    unsafe {
-        match case.operation {
-            Operation::Subentities => ts_subentities(case.kind, ids, n, o, m, e, k),
-            _ => ts_subentities_of(case.kind, case.parameter, ids, n, o, m, e, k),
-        }
-    }
+    unsafe { ts_subentities(case.kind, ids, n, o, m, e, k) }
 }
 
-/// What every other operation answers.
+fn subentities_of(case: &Case, out: &mut [u64], ends: &mut [u64]) -> Parts {
+    let (ids, n) = (case.ids.as_ptr(), case.ids.len());
+    let (o, m, e, k) = (out.as_mut_ptr(), out.len(), ends.as_mut_ptr(), ends.len());
+    // SAFETY: as above, and so below.
+    unsafe { ts_subentities_of(case.kind, case.parameter, ids, n, o, m, e, k) }
+}
+
 #[inline(always)]
-fn answer(case: &Case, out: &mut [u64]) -> Answer {
-    match case.operation {
-        Operation::ToPoly => one(ts_to_poly, case, out),
-        Operation::FromPoly => one(ts_from_poly, case, out),
-        Operation::ToSimplexes => one(ts_to_simplexes, case, out),
-        Operation::SplitBlock => one(ts_split_block, case, out),
-        Operation::Reorient => reorient(case, out),
-        Operation::SplitRecord => record(case, out),
-        Operation::Subentities | Operation::SubentitiesOf => unreachable!("they answer parts"),
-    }
+pub fn to_poly(case: &Case, out: &mut [u64]) -> Answer {
+    one(ts_to_poly, case, out)
+}
+
+#[inline(always)]
+pub fn from_poly(case: &Case, out: &mut [u64]) -> Answer {
+    one(ts_from_poly, case, out)
+}
+
+#[inline(always)]
+pub fn to_simplexes(case: &Case, out: &mut [u64]) -> Answer {
+    one(ts_to_simplexes, case, out)
+}
+
+#[inline(always)]
+pub fn split_block(case: &Case, out: &mut [u64]) -> Answer {
+    one(ts_split_block, case, out)
 }
 
 #[inline(always)]
 fn one(operation: OneOutput, case: &Case, out: &mut [u64]) -> Answer {
     let (ids, n) = (case.ids.as_ptr(), case.ids.len());
-    // SAFETY: as in `parts`.
     unsafe { operation(case.kind, ids, n, out.as_mut_ptr(), out.len()) }
 }
 
 #[inline(always)]
-fn reorient(case: &Case, out: &mut [u64]) -> Answer {
+pub fn reorient(case: &Case, out: &mut [u64]) -> Answer {
     let (ids, points) = (&case.ids, &case.points);
-    // SAFETY: as in `parts`.
     unsafe {
         ts_reorient(
             case.kind,
@@ -157,8 +156,7 @@ fn reorient(case: &Case, out: &mut [u64]) -> Answer {
     }
 }
 
-fn record(case: &Case, out: &mut [u64]) -> Answer {
+fn split_record(case: &Case, out: &mut [u64]) -> Answer {
     let bytes = case.record();
-    // SAFETY: as in `parts`.
     unsafe { ts_split_record(bytes.as_ptr(), bytes.len(), out.as_mut_ptr(), out.len()) }
 }
