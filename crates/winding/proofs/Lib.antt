@@ -1,6 +1,7 @@
 -- The laws that the proofs of winding share, and what is claimed of its answers.
 pub mod Points
 pub mod Round
+mod Sound
 pub mod Turned
 pub mod Parts
 pub mod Rising

@@ -1,10 +1,11 @@
 // The points of a list of numbers: two each in the plane, three in space. Point i belongs to id i.
 ghost use mathlib.Core.Path.{_≡_};
-ghost use mathlib.Core.Bool.{not, _&&_};
+ghost use mathlib.Core.Bool.{not, true, _&&_};
 ghost use Prim.Native.Nat.{_<_};
 ghost use lib.Dec.{eqb, leb};
 ghost use lib.ListN.{length};
 ghost use Rattle.base.specs.Kinds.{separator};
+ghost use Rattle.winding.specs.Inner.Scan.{Placed};
 ghost use Rattle.winding.specs.Points.{lacksPoint, pointAt, pointCount, pointsFit};
 
 // A point in the plane or in space.
@@ -57,6 +58,20 @@ pub fn lacks_point(count: usize, ids: &[u64]) -> bool
         i += 1;
     }
     false
+}
+
+// Whether every entry of the list is an id with one of so many points.
+pub fn are_placed(count: usize, ids: &[u64]) -> bool
+    ensures { λ r. ⌜ (r ≡ true → Placed count (now (ids .entry))) ⌝ }
+{
+    let mut i = 0;
+    while i < ids.len() {
+        if count as u64 <= ids[i] {
+            return false;
+        }
+        i += 1;
+    }
+    true
 }
 
 // Whether an entry is an id with none of so many points. One test does for both: the separator is the

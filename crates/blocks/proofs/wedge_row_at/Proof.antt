@@ -1,6 +1,6 @@
 -- `wedge_row_at` meets its contract: the part that is lent on is wedge i.
 use borrow.Author.Needs.{needs}
-use mathlib.Core.Path.{_≡_, _∙_, ap}
+use mathlib.Core.Path.{_∙_, ap}
 use Prim.Native.Nat.{_*_}
 use Rattle.cuts.specs.Inner.Strings.{wedgePlace}
 use Rattle.blocks.proofs.Parts.{part, part-long}

@@ -1,58 +1,13 @@
--- `reorient_refusal` meets its contract: each return knows how the tests above it went.
-use borrow.Author.Tests.{eq-eqb, ne-eqb}
-use Rattle.winding.specs.Reorient.{reorientRefusal}
+-- `reorient_refusal` meets its contract: what is sound is not refused, and of the rest the tests tell.
+use mathlib.Core.Path.{sym}
 use Rattle.winding.proofs.reorient_refusal.Statement.{statement}
 use Rattle.winding.proofs.reorient_refusal.Tie as tie
 
 pub reorient-refusal-spec : {M : Type 1} → statement M
-unfolding reorientRefusal
 reorient-refusal-spec =
     tie.close
     (tie.spec
     (λ c κs. tt)
-    (λ c. simp (← c .before .element-refusal .ensures, ne-eqb _ _ (c .if1 .taken)))
+    (λ c. sym (c .before .is-sound .ensures (c .if1 .taken)))
     (λ c κs. tt)
-    (λ c.
-    let e = c .before .before in
-    simp (← e .before .element-refusal .ensures, eq-eqb _ _ (e .if1 .left), ← c .before .points-fit .ensures, c .if2 .taken))
-    (λ c κs. tt)
-    (λ c.
-    let p = c .before .before in
-    let e = p .before .before in
-    simp (
-      ← e .before .element-refusal .ensures,
-      eq-eqb _ _ (e .if1 .left),
-      ← p .before .points-fit .ensures,
-      p .if2 .left,
-      ← c .before .has-no-rule .ensures,
-      c .if3 .taken,
-    ))
-    (λ c κs. tt)
-    (λ c.
-    let h = c .before .before in
-    let p = h .before .before in
-    let e = p .before .before in
-    simp (
-      ← e .before .element-refusal .ensures,
-      eq-eqb _ _ (e .if1 .left),
-      ← p .before .points-fit .ensures,
-      p .if2 .left,
-      ← h .before .has-no-rule .ensures,
-      h .if3 .left,
-      ← c .before .wants-point .ensures,
-      c .if4 .taken,
-    ))
-    (λ c.
-    let h = c .before .before in
-    let p = h .before .before in
-    let e = p .before .before in
-    simp (
-      ← e .before .element-refusal .ensures,
-      eq-eqb _ _ (e .if1 .left),
-      ← p .before .points-fit .ensures,
-      p .if2 .left,
-      ← h .before .has-no-rule .ensures,
-      h .if3 .left,
-      ← c .before .wants-point .ensures,
-      c .if4 .left,
-    )))
+    (λ c. c .first-refusal .ensures))

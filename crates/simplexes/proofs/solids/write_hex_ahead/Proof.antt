@@ -1,6 +1,6 @@
 -- `solids::write_hex_ahead` meets its contract: of the six tetrahedra that it writes, five or six count.
 use borrow.Author.Needs.{needs}
-use mathlib.Core.Path.{_≡_, sym, _∙_, ap}
+use mathlib.Core.Path.{_≡_, _∙_, ap}
 use mathlib.Core.List.{List, []}
 use Prim.Native.Nat.{ℕ, _*_, _≤_, _<_}
 use native.Mathlib.Omega.{arith}
@@ -11,8 +11,7 @@ use Rattle.base.proofs.Picks.{length-undigit}
 use Rattle.cuts.specs.Split.{hexCut, simplexes}
 use Rattle.cuts.proofs.Cuts.{hex-least, length-simplexes}
 use Rattle.cuts.proofs.Strings.{hex-within}
-use Rattle.cuts.proofs.Table.{RowIs, row-is, place-few}
-use Rattle.simplexes.specs.Inner.Written.{Ahead}
+use Rattle.cuts.proofs.Table.{row-is, place-few}
 use Rattle.simplexes.proofs.Ahead.{row-ahead}
 use Rattle.simplexes.proofs.solids.write_hex_ahead.Statement.{statement}
 use Rattle.simplexes.proofs.solids.write_hex_ahead.Tie as tie
