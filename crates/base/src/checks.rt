@@ -2,7 +2,7 @@
 ghost use mathlib.Core.Path.{_≡_};
 ghost use mathlib.Core.Bool.{false, true};
 ghost use Prim.Native.Nat.{_<_};
-ghost use Rattle.base.specs.Checks.{blockRefusal, elementRefusal, holdsSeparator, inputRefusal};
+ghost use Rattle.base.specs.Checks.{blockRefusal, elementFits, elementRefusal, holdsSeparator, inputRefusal};
 use super::kinds::Kind;
 use super::kinds::is_kind;
 use super::kinds::node_count;
@@ -12,12 +12,19 @@ use super::refusals::Refusal;
 pub fn element_refusal(kind: u64, ids: &[u64]) -> u64
     ensures { λ r. ⌜ r ≡ elementRefusal kind (now (ids .entry)) ⌝ }
 {
+    let fits = element_fits(kind, ids.len());
+    input_refusal(kind, ids, Kind::ELEMENT_LIMIT, fits, false)
+}
+
+// Whether the node count is right for one element of the kind.
+pub fn element_fits(kind: u64, n: usize) -> bool
+    ensures { λ r. ⌜ r ≡ elementFits kind n ⌝ }
+{
     let nodes = node_count(kind);
     if nodes == 0 {
-        let fits = (kind == Kind::PHED) | (0 < ids.len());
-        return input_refusal(kind, ids, Kind::ELEMENT_LIMIT, fits, false);
+        return (kind == Kind::PHED) | (0 < n);
     }
-    input_refusal(kind, ids, Kind::ELEMENT_LIMIT, ids.len() == nodes, false)
+    n == nodes
 }
 
 // The first of the refusals 1 to 4 that a block of one kind meets, or 0.

@@ -10,7 +10,7 @@ use borrow.Author.Tests.{eqb-true, ne-eqb, le-ltb, lt-leb}
 use Rattle.base.specs.Kinds.{separator, elementLimit, isKind}
 use Rattle.base.specs.Checks.{elementFits, elementRefusal, holdsSeparator, inputRefusal, strays}
 use Rattle.base.proofs.Tests.{and-true}
-use Rattle.winding.specs.Points.{lacksPoint, pointsFit}
+use Rattle.winding.specs.Points.{lacksPoint, pointCount, pointsFit}
 use Rattle.winding.specs.Inner.Scan.{Placed}
 use Rattle.winding.specs.Reorient.{hasNoRule, reorientRefusal, turnsInPlane, turnsInSpace, wantsPoint}
 
@@ -60,9 +60,12 @@ module _ (ids : List ℕ) (n : ℕ) (even : n % 2 ≡ 0) (few : length ids ≤ e
       go false false true a b c h = let e = eqb-true kind 18 c in rw e (none 18 refl refl (rw e at f))
       go false false false a b c h = absurd (false≢true h)
 
-pub sound : (kind : ℕ) (ids : List ℕ) (dimension n : ℕ) → turnsInPlane kind dimension ≡ true → n % 2 ≡ 0 → length ids ≤ elementLimit
-    → n / 2 ≤ separator → elementFits kind (length ids) ≡ true → Placed (n / 2) ids → reorientRefusal kind ids dimension n ≡ 0
-unfolding turnsInPlane
+pub sound : (kind : ℕ) (ids : List ℕ) (dimension n : ℕ) → turnsInPlane kind dimension ≡ true → pointsFit dimension n ≡ true
+    → length ids ≤ elementLimit → n ≤ separator → elementFits kind (length ids) ≡ true → Placed (pointCount dimension n) ids
+    → reorientRefusal kind ids dimension n ≡ 0
+unfolding turnsInPlane pointsFit
 sound kind ids dimension n t even few small f p =
     let b = and-true (eqb dimension 2) (eqb kind 5 || eqb kind 8 || eqb kind 18) t in
-    rw (eqb-true dimension 2 (b .0)) (of-three ids n even few small p kind (b .1) f)
+    let two = eqb-true dimension 2 (b .0) in
+    let half : n / 2 ≤ separator = omega (arith, small) in
+    rw two (of-three ids n (eqb-true (n % 2) 0 (rw two at even)) few half (rw two at p) kind (b .1) f)

@@ -4,13 +4,12 @@ ghost use mathlib.Core.Path.{_≡_};
 ghost use mathlib.Core.Bool.{true};
 ghost use Prim.Native.Nat.{_≤_};
 ghost use lib.ListN.{length};
-ghost use Rattle.base.specs.Checks.{elementFits};
 ghost use Rattle.base.specs.Outcome.{Permits, overwrite};
 ghost use Rattle.winding.specs.Reorient.{hasNoRule, reorientOutcome, reorientRefusal, reoriented, turnsInPlane, turnsInSpace, wantsPoint};
 ghost use Rattle.winding.specs.Inner.Scan.{answerSize};
+use base::checks::element_fits;
 use base::checks::element_refusal;
 use base::kinds::Kind;
-use base::kinds::node_count;
 use base::lent::copy;
 use base::refusals::Answer;
 use base::refusals::Refusal;
@@ -72,27 +71,16 @@ fn is_sound(kind: u64, ids: &[u64], dimension: u64, n: usize) -> bool
     if !turns_in_plane(kind, dimension) {
         return false;
     }
-    if n % 2 != 0 {
+    if !points_fit(dimension, n) {
         return false;
     }
     if Kind::ELEMENT_LIMIT < ids.len() {
         return false;
     }
-    if fits(kind, ids.len()) {
-        return are_placed(n / 2, ids);
+    if element_fits(kind, ids.len()) {
+        return are_placed(point_count(dimension, n), ids);
     }
     false
-}
-
-// Whether an element of the kind may have so many nodes.
-fn fits(kind: u64, n: usize) -> bool
-    ensures { λ r. ⌜ (r ≡ true → elementFits kind n ≡ true) ⌝ }
-{
-    let nodes = node_count(kind);
-    if nodes == 0 {
-        return 0 < n;
-    }
-    n == nodes
 }
 
 // The first refusal by every test in its turn.

@@ -11,6 +11,7 @@ use Rattle.base.specs.Outcome.{overwrite}
 use Rattle.base.proofs.Lists.{length-overwrite}
 use Rattle.cuts.specs.Split.{split}
 use Rattle.cuts.specs.Demand3.{splits}
+use Rattle.cuts.specs.Inner.Strings.{hexStrings}
 use Rattle.cuts.specs.Table.{hexPlace}
 use Rattle.simplexes.specs.Inner.Written.{Ahead}
 use Rattle.blocks.specs.Blocks.{cells, counts}
@@ -64,7 +65,15 @@ room l =
     let fits = next-room 15 (s .args .ids .now) (l .loop .i) (s .args .n) _ (l .loop .inv .0) (s .pre .1) in
     omega (arith, l .loop .inv .1, l .loop .inv .2 .long, fits)
 
--- and, if it is not the last, its filler too
+-- its row is known, and it is there
+known : (l : tie.At-loop Inv-loop μ-loop) →
+    let ids = start l .args .ids .now in
+    (l .before .before .before .before .before .before .before .hex-table .result ≡ hexStrings) × (l .loop .row ≡ rowOf ids (l .loop .i)) × (l .loop .i * 8 + 8 ≤ length ids)
+known l =
+    let s = start l in
+    (l .before .before .before .before .before .before .before .hex-table .ensures, l .loop .inv .3, cell-left (l .loop .i) (s .args .n) 8 _ (l .loop .inv .0) (s .pre .0))
+
+-- if it is not the last, its filler finds room too
 more-room : (c : tie.In-loop Inv-loop μ-loop) → c .before .loop .at + 24 ≤ length (c .before .loop .out)
 unfolding nodesOf
 more-room c =
@@ -168,16 +177,7 @@ write-bricks-spec =
     (c .before .before .before .before .renumberings .ensures, cell-left (c .lesser .result) (s .args .n) 8 _ h (s .pre .0)))
     loop-holds
     (λ c. search needs)
-    (λ c κs.
-    let l = c .before .before .before in
-    let s = start l in (
-      (
-        l .before .before .before .before .before .before .before .hex-table .ensures,
-        l .loop .inv .3,
-        cell-left (l .loop .i) (s .args .n) 8 _ (l .loop .inv .0) (s .pre .0),
-      ),
-      more-room (c .before .before),
-    ))
+    (λ c κs. (known (c .before .before .before), more-room (c .before .before)))
     (λ c. search needs)
     (λ c. search needs)
     (λ c κs. search needs)
@@ -191,16 +191,7 @@ write-bricks-spec =
     (λ c. search needs)
     (λ c. search needs)
     loop-again
-    (λ c κs.
-    let l = c .before .before .before in
-    let s = start l in (
-      (
-        l .before .before .before .before .before .before .before .hex-table .ensures,
-        l .loop .inv .3,
-        cell-left (l .loop .i) (s .args .n) 8 _ (l .loop .inv .0) (s .pre .0),
-      ),
-      room l,
-    ))
+    (λ c κs. (known (c .before .before .before), room (c .before .before .before)))
     (λ c. record { fits = omega (arith, c .before .before .write-brick .ensures .0, brick-ids (cell (at-last c)), room (at-last c)) })
     (λ c. ap length (written c) ∙ length-overwrite _ _ (start (at-last c) .pre .1))
     (λ c. record { counted = counted c; written = written c }))

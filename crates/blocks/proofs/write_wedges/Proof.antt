@@ -12,7 +12,7 @@ use Rattle.base.specs.Outcome.{overwrite}
 use Rattle.base.proofs.Lists.{length-overwrite}
 use Rattle.cuts.specs.Split.{split}
 use Rattle.cuts.specs.Demand3.{splits}
-use Rattle.cuts.specs.Inner.Strings.{wedgePlace}
+use Rattle.cuts.specs.Inner.Strings.{wedgePlace, wedgeStrings}
 use Rattle.blocks.specs.Blocks.{cells}
 use Rattle.blocks.proofs.Parts.{wedges-ids, cellAt, next-room, next-fits, next-written, cell-left}
 use Rattle.blocks.proofs.write_wedges.Statement.{statement}
@@ -52,6 +52,14 @@ room l =
     let s = start l in
     let fits = next-room 13 (s .args .ids .now) (l .loop .i) (s .args .n) _ (l .loop .inv .0) (s .pre .1) in
     omega (arith, l .loop .inv .1, l .loop .inv .2, wedges-ids (l .loop .i) (s .args .ids .now), fits)
+
+-- its row is known, and it is there
+known : (l : tie.At-loop Inv-loop μ-loop) →
+    let ids = start l .args .ids .now in
+    (l .before .before .before .before .wedge-table .result ≡ wedgeStrings) × (l .loop .row ≡ rowOf ids (l .loop .i)) × (l .loop .i * 6 + 6 ≤ length ids)
+known l =
+    let s = start l in
+    (l .before .before .before .before .wedge-table .ensures, l .loop .inv .4, cell-left (l .loop .i) (s .args .n) 6 _ (l .loop .inv .0) (s .pre .0))
 
 -- all up to it find room
 fits : (l : tie.At-loop Inv-loop μ-loop) →
@@ -109,14 +117,7 @@ write-wedges-spec =
     (l .before .before .before .wedge-quads .ensures, cell-left (l .loop .i + 1) (s .args .n) 6 _ h (s .pre .0)))
     (λ c κs.
     let l = c .before .before .before .before .before in
-    let s = start l in (
-      (
-        l .before .before .before .before .wedge-table .ensures,
-        l .loop .inv .4,
-        cell-left (l .loop .i) (s .args .n) 6 _ (l .loop .inv .0) (s .pre .0),
-      ),
-      room l,
-    ))
+    (known l, room l))
     (λ c.
     let l = c .before .before .before .before .before .before .before .before in
     record { fits = omega (arith, l .loop .inv .1, wedges-ids (l .loop .i + 1) (start l .args .ids .now), fits l) })
@@ -125,13 +126,6 @@ write-wedges-spec =
     loop-again
     (λ c κs.
     let l = c .before .before .before in
-    let s = start l in (
-      (
-        l .before .before .before .before .wedge-table .ensures,
-        l .loop .inv .4,
-        cell-left (l .loop .i) (s .args .n) 6 _ (l .loop .inv .0) (s .pre .0),
-      ),
-      room l,
-    ))
+    (known l, room l))
     (λ c. ap length (written c) ∙ length-overwrite _ _ (start (c .before .before .before .before .before .before) .pre .1))
     written)

@@ -9,12 +9,16 @@ use Rattle.winding.proofs.is_sound.Tie as tie
 
 placed : tie.Need-returns-4
 placed c =
-    let f = c .before .before in
-    let two = c .before .before .before .before in
-    let turns = two .before in
+    let fits = c .before .before in
+    let points = fits .before .before .before in
+    let turns = points .before .before in
     let a = turns .before .before .before .args in
-    λ e. sound (a .kind) (a .ids .now) (a .dimension) (a .n) (sym (turns .before .turns-in-plane .ensures) ∙ not-false _ (turns .if1 .left)) (two .if2 .left) (omega arith) (omega arith)
-    (f .fits2 .ensures (c .before .if4 .taken)) (c .are-placed .ensures e)
+    λ e. sound (a .kind) (a .ids .now) (a .dimension) (a .n)
+    (sym (turns .before .turns-in-plane .ensures) ∙ not-false _ (turns .if1 .left))
+    (sym (points .before .points-fit .ensures) ∙ not-false _ (points .if2 .left))
+    (omega arith) (omega arith)
+    (sym (fits .before .element-fits .ensures) ∙ fits .if4 .taken)
+    (rw (c .before .point-count .ensures) at (c .are-placed .ensures e))
 
 pub is-sound-spec : {M : Type 1} → statement M
 is-sound-spec =
@@ -22,8 +26,10 @@ is-sound-spec =
     (tie.spec
     (λ c κs. tt)
     (λ c. λ e. absurd (false≢true e))
+    (λ c κs. tt)
     (λ c. λ e. absurd (false≢true e))
     (λ c. λ e. absurd (false≢true e))
+    (λ c κs. tt)
     (λ c κs. tt)
     (λ c κs. tt)
     placed
