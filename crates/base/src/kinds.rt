@@ -93,6 +93,7 @@ pub fn is_kind(kind: u64) -> bool
 }
 
 // How many nodes an element of the kind has; 0 where the kind does not fix it.
+#[tactic(auto, unfolding(crate::specs::Kinds::nodes_of))]
 pub fn node_count(kind: u64) -> usize
     ensures { result ≡ nodes_of kind }
 {

@@ -1,4 +1,6 @@
 // Blocks of cells of one kind, split cell by cell into one lent output.
+#![tactic(auto)]
+
 ghost use Rattle.std.specs.Prelude.{◌≡◌, true, ◌++◌, ◌*◌, ◌+◌, ◌-◌, ◌≤◌, min, leb, drop, length, take};
 ghost use Rattle.base.specs.Solids.{is_solid};
 ghost use Rattle.base.specs.Kinds.{nodes_of};

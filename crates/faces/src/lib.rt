@@ -1,4 +1,6 @@
 // The faces of a PHED, read one after another from the caller's list.
+#![tactic(auto)]
+
 ghost use Rattle.std.specs.Prelude.{◌≡◌, ◌+◌, ◌≤◌, drop, length};
 ghost use Rattle.faces.specs.Inner.Walk.{agree, next_face, span};
 

@@ -1,4 +1,6 @@
 // Recognition: an element of a poly kind as the fixed kind that it is.
+#![tactic(auto)]
+
 ghost use Rattle.std.specs.Prelude.{◌≡◌, ◌≤◌, length, take};
 ghost use Rattle.base.specs.Outcome.{Permits, settle};
 ghost use Rattle.recognise.specs.FromPoly.{from_poly, plain_kind};

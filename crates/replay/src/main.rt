@@ -1,5 +1,7 @@
 // Replays the stored calls on standard input: compares what each operation answers, and all that
 // its lent outputs then hold, with what is stored. The last line has the sums.
+#![tactic(auto)]
+
 ghost use Rattle.std.specs.Prelude.{◌<◌, ◌≤◌, length};
 ghost use Rattle.replay.specs.Inner.Stored.{Fits};
 

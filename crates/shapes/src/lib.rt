@@ -1,5 +1,7 @@
 // The cell that faces of known lengths make: four triangles, six quads, or two triangles and three
 // quads, by their nodes.
+#![tactic(auto)]
+
 pub mod brick;
 pub mod cells;
 pub mod tet;

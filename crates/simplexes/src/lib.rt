@@ -1,4 +1,6 @@
 // The split of one cell into simplexes.
+#![tactic(auto)]
+
 ghost use Rattle.std.specs.Prelude.{◌≡◌, leb, length};
 ghost use Rattle.base.specs.Outcome.{Permits};
 ghost use Rattle.cuts.specs.Split.{split, split_kind, split_refusal, to_simplexes};

@@ -1,4 +1,6 @@
 // Reads records on standard input and prints the simplexes of each, then how many records began.
+#![tactic(auto)]
+
 ghost use Rattle.std.specs.Prelude.{◌≡◌, ◌+◌, ◌-◌, ◌%◌, ◌<◌, ◌≤◌, drop, length, take};
 ghost use Rattle.records.specs.Frame.{frame_at};
 ghost use Rattle.records.specs.Inner.Place.{Written};

@@ -1,5 +1,7 @@
 // The C interface: one entry point for each operation, with the operation's own contract. A slice
 // crosses as a pointer and a count; include/tallyspool.h says what a host owes.
+#![tactic(auto)]
+
 ghost use Rattle.base.specs.Outcome.{Permits};
 ghost use Rattle.blocks.specs.Blocks.{split_block};
 ghost use Rattle.parts.specs.Poly.{to_poly};

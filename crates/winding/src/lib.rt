@@ -1,5 +1,7 @@
 // Winding: a cycle in the plane is turned so that its area is not below zero, the faces of a
 // polyhedron in space so that they look out.
+#![tactic(auto)]
+
 ghost use Rattle.std.specs.Prelude.{◌≡◌, ◌≤◌, true, length};
 ghost use Rattle.base.specs.Outcome.{Permits, overwrite};
 ghost use Rattle.winding.specs.Reorient.{has_no_rule, reorient_outcome, reorient_refusal, reoriented, turns_in_plane, turns_in_space, wants_point};
