@@ -2,9 +2,8 @@
 use mathlib.Core.Path.{refl}
 use Rattle.base.specs.Outcome.{overwrite}
 use Rattle.cuts.specs.Inner.Strings.{case_strings}
-use Rattle.cuts.proofs.tables.cases.Statement.{statement}
-use Rattle.cuts.proofs.tables.cases.Tie as tie
+use Rattle.cuts.proofs.tables.cases.Goals as goal
 
-pub cases_spec : {M : Type 1} → statement M
+pub returns : goal.returns
 unfolding case_strings overwrite
-cases_spec = tie.close (tie.spec (λ c. refl))
+returns c = refl
