@@ -1,0 +1,23 @@
+-- `rows::write_row` meets its contract: a row picks as many ids as it has digits.
+use mathlib.Core.Path.{refl}
+use Prim.Native.Nat.{◌<◌, ◌≤◌}
+use lib.ListN.{length}
+use Rattle.base.specs.Gather.{pick, undigit}
+use Rattle.base.proofs.Picks.{length-undigit}
+use Rattle.base.proofs.Settle.{settle_one_short, settle_one_gives}
+use Rattle.parts.specs.Subentities.{refused_parts}
+use Rattle.parts.proofs.rows.write_row.Goals as goal
+
+pub returns-then-out-row : goal.returns-then-out-row
+returns-then-out-row c =
+    let a = c.args in
+    let short : length a.out.now < length (pick a.ids.now (undigit a.row.now)) = rw length-undigit c.if-out-row.true in
+    rw (settle_one_short refused_parts 0 _ (pick a.ids.now (undigit a.row.now)) a.out.now refl short)
+    (record { answered = c.refused.ensures; left = refl })
+
+pub returns : goal.returns
+returns c =
+    let a = c.args in
+    let room : length (pick a.ids.now (undigit a.row.now)) ≤ length a.out.now = rw length-undigit c.if-out-row.false in
+    rw (settle_one_gives refused_parts 0 _ (pick a.ids.now (undigit a.row.now)) a.out.now refl room)
+    (record { answered = refl; left = c.gather_within.ensures })

@@ -1,0 +1,97 @@
+-- `subentities::depth` meets its contract: an arm for each kind, and past them there is no table.
+use borrow.Author.Tests.{ne_eqb}
+use Prim.Native.Nat.{◌≤◌}
+use native.Mathlib.Omega.{arith}
+use Rattle.base.proofs.Tests.{past}
+use Rattle.parts.specs.Tables.{table_of}
+use Rattle.parts.specs.Subentities.{depth}
+use Rattle.parts.proofs.Tables.{no_table}
+use Rattle.parts.proofs.subentities.depth.Goals as goal
+
+pub returns-in-0 : goal.returns-in-0
+unfolding depth table_of
+returns-in-0 c = rw c.in-0.is
+
+pub returns-in-1 : goal.returns-in-1
+unfolding depth table_of
+returns-in-1 c = rw c.in-1.is
+
+pub returns-in-2 : goal.returns-in-2
+unfolding depth table_of
+returns-in-2 c = rw c.in-2.is
+
+pub returns-in-3 : goal.returns-in-3
+unfolding depth table_of
+returns-in-3 c = rw c.in-3.is
+
+pub returns-in-4 : goal.returns-in-4
+unfolding depth table_of
+returns-in-4 c = rw c.in-4.is
+
+pub returns-in-5 : goal.returns-in-5
+unfolding depth table_of
+returns-in-5 c = rw c.in-5.is
+
+pub returns-in-6 : goal.returns-in-6
+unfolding depth table_of
+returns-in-6 c = rw c.in-6.is
+
+pub returns-in-7 : goal.returns-in-7
+unfolding depth table_of
+returns-in-7 c = rw c.in-7.is
+
+pub returns-in-8 : goal.returns-in-8
+unfolding depth table_of
+returns-in-8 c = rw c.in-8.is
+
+pub returns-in-9 : goal.returns-in-9
+unfolding depth table_of
+returns-in-9 c = rw c.in-9.is
+
+pub returns-in-10 : goal.returns-in-10
+unfolding depth table_of
+returns-in-10 c = rw c.in-10.is
+
+pub returns-in-11 : goal.returns-in-11
+unfolding depth table_of
+returns-in-11 c = rw c.in-11.is
+
+pub returns-in-12 : goal.returns-in-12
+unfolding depth table_of
+returns-in-12 c = rw c.in-12.is
+
+pub returns-in-13 : goal.returns-in-13
+unfolding depth table_of
+returns-in-13 c = rw c.in-13.is
+
+pub returns-in-14 : goal.returns-in-14
+unfolding depth table_of
+returns-in-14 c = rw c.in-14.is
+
+pub returns-in-15 : goal.returns-in-15
+unfolding depth table_of
+returns-in-15 c = rw c.in-15.is
+
+pub returns-in-16 : goal.returns-in-16
+unfolding depth table_of
+returns-in-16 c = rw c.in-16.is
+
+pub returns-in-17 : goal.returns-in-17
+unfolding depth table_of
+returns-in-17 c = rw c.in-17.is
+
+pub returns-in-18 : goal.returns-in-18
+unfolding depth table_of
+returns-in-18 c = rw c.in-18.is
+
+pub returns-in-19 : goal.returns-in-19
+unfolding depth table_of
+returns-in-19 c = rw c.in-19.is
+
+pub returns-in_default : goal.returns-in_default
+unfolding depth table_of
+returns-in_default c =
+    let kind = c.args.kind in
+    let far : 20 ≤ kind = past kind 20 c.in_default.in_default-own.rest in
+    let none : 16 ≤ kind = omega arith in
+    simp (ne_eqb kind 18 (λ e. omega arith), ne_eqb kind 19 (λ e. omega arith), no_table kind none)
