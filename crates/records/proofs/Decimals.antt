@@ -1,7 +1,7 @@
 -- Laws of numbers as digits: how many there are, how they are spelled, and that they stand for the number.
 use mathlib.Core.Path.{◌≡◌, refl, ap}
 use Prim.Native.Nat.{ℕ, zero, suc, ◌+◌, ◌-◌, ◌*◌, ◌/◌, ◌%◌, ◌^◌, ◌<◌, ◌≤◌}
-use native.Mathlib.Nat.{pow-succ', one-le-pow, pow-le-pow_right, lt_of_not_le, le_of_suc-le-suc, not-suc-le-zero}
+use native.Mathlib.Nat.{pow-succ', one-le-pow, pow-le-pow_right, lt_of_not-le, le_of_suc-le-suc, not-suc-le-zero}
 use native.Mathlib.Omega.{arith}
 use mathlib.Core.List.{List, [], ◌∷◌, ◌++◌, map-append}
 use lib.Dec.{ltb}
@@ -33,7 +33,7 @@ places-by_power k n h low high = places_in_lem 20 k n h low high
 -- a power of ten that a number of 64 bits reaches is below the twentieth
 pub power_below : (k : ℕ) → 10 ^ k ≤ 18446744073709551615 → k < 20
 power_below k h =
-    lt_of_not_le (λ (l : 20 ≤ k). let p : 10 ^ 20 ≤ 10 ^ k = pow-le-pow_right (omega arith) l in omega arith)
+    lt_of_not-le (λ (l : 20 ≤ k). let p : 10 ^ 20 ≤ 10 ^ k = pow-le-pow_right (omega arith) l in omega arith)
 
 pub spelled_more : (k n : ℕ) → spelled (suc k) n ≡ spelled k (n / 10) ++ ((48 + n % 10) ∷ [])
 unfolding spelled

@@ -5,14 +5,14 @@ ghost use Rattle.winding.specs.Inner.Scan.{Placed};
 ghost use Rattle.winding.specs.Points.{lacks_point, point_at, point_count, points_fit};
 
 // A point in the plane or in space.
-#[derive(Drop)]
+#[derive(Clone, Copy)]
 pub enum Point {
     Plane(f64, f64),
     Space(f64, f64, f64),
 }
 
 // A direction in space, or a sum of points there.
-#[derive(Drop)]
+#[derive(Clone, Copy)]
 pub struct Vector {
     pub x: f64,
     pub y: f64,

@@ -1,0 +1,34 @@
+-- `solids::put_one` meets its contract: the digit that is read is one of the corners.
+use mathlib.Core.Path.{sym, ◌∙◌, ap}
+use Prim.Native.Nat.{ℕ, ◌-◌, ◌<◌}
+use native.Mathlib.Omega.{arith}
+use lib.ListN.{length, get_or, set}
+use Rattle.base.specs.Kinds.{separator}
+use Rattle.base.proofs.Picks.{undigit_at, within_default}
+use Rattle.simplexes.proofs.solids.put_one.Goals as goal
+
+pub corner_of-corner-requires : goal.corner_of-corner-requires
+corner_of-corner-requires c = (c.requires.2 c.args.at c.requires.0).0
+
+pub offset_bounds-ids-corner : goal.offset_bounds-ids-corner
+offset_bounds-ids-corner c =
+    let read : c.corner_of-corner.result < length c.args.ids.now = let w = c.requires.2 c.args.at c.requires.0 in
+    omega (arith, w.0, w.1, c.corner_of-corner.ensures) in
+    omega (arith, read)
+
+pub bounds-ids-corner : goal.bounds-ids-corner
+bounds-ids-corner c =
+    let read : c.corner_of-corner.result < length c.args.ids.now = let w = c.requires.2 c.args.at c.requires.0 in
+    omega (arith, w.0, w.1, c.corner_of-corner.ensures) in
+    read
+
+pub returns : goal.returns
+returns c =
+    let a = c.args in
+    let ids = a.ids.now in
+    let string = a.string.now in
+    let d = get_or string a.at 0 in
+    let w = c.requires.2 a.at c.requires.0 in
+    let lt : d - 48 < length ids = omega (arith, w.0, w.1) in
+    ap (set a.out.now a.at)
+    (ap (λ (@{After-corner_of} : ℕ). get_or ids @{After-corner_of} 0) c.corner_of-corner.ensures ∙ within_default ids (d - 48) 0 separator lt ∙ sym (undigit_at ids string a.at c.requires.0))

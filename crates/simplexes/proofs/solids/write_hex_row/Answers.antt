@@ -1,0 +1,44 @@
+-- `solids::write_hex_row` meets its contract: the ids at the corners of the brick's row are those of the two steps.
+use mathlib.Core.Path.{◌∙◌, ap}
+use mathlib.Core.List.{List, []}
+use Prim.Native.Nat.{ℕ, ◌<◌}
+use native.Mathlib.Omega.{arith}
+use lib.ListN.{get_or}
+use Rattle.base.specs.Outcome.{overwrite}
+use Rattle.cuts.specs.Split.{hex_cut}
+use Rattle.cuts.proofs.Cuts.{length-simplexes}
+use Rattle.cuts.proofs.Strings.{hex_within}
+use Rattle.cuts.proofs.Table.{RowIs, row_is, place_few}
+use Rattle.simplexes.proofs.solids.write_hex_row.Goals as goal
+
+pub row_count-count-requires : goal.row_count-count-requires
+row_count-count-requires c =
+    let few : c.args.row < 64 = rw c.requires.table_value.2 (place_few c.args.ids.now) in
+    few
+
+pub offset_bounds-table-row : goal.offset_bounds-table-row
+offset_bounds-table-row c =
+    let few : c.args.row < 64 = rw c.requires.table_value.2 (place_few c.args.ids.now) in
+    omega (arith, few)
+
+pub bounds-table-row : goal.bounds-table-row
+bounds-table-row c =
+    let few : c.args.row < 64 = rw c.requires.table_value.2 (place_few c.args.ids.now) in
+    few
+
+pub put-requires : goal.put-requires
+put-requires c =
+    let few : c.args.row < 64 = rw c.requires.table_value.2 (place_few c.args.ids.now) in
+    let row : RowIs c.args.ids.now (get_or c.args.table.now c.args.row []) c.row_count??.result = row_is _ _ _ _ c.requires.table_value.2 (ap (λ (t : List (List ℕ)). get_or t c.args.row []) c.requires.table_value.0) c.row_count??.ensures.0 in (
+      omega (arith, c.row_count??.ensures.1),
+      omega (arith, (row).counted, length-simplexes 4 (hex_cut c.args.ids.now), c.requires.ids_in_bounds),
+      rw (c.requires.table_value.0, c.requires.table_value.1) (hex_within c.args.row (few)),
+    )
+
+pub returns : goal.returns
+returns c =
+    let row : RowIs c.args.ids.now (get_or c.args.table.now c.args.row []) c.row_count??.result = row_is _ _ _ _ c.requires.table_value.2 (ap (λ (t : List (List ℕ)). get_or t c.args.row []) c.requires.table_value.0) c.row_count??.ensures.0 in
+    record {
+      counted = (row).counted;
+      written = c.put.ensures ∙ ap (λ (xs : List ℕ). overwrite xs c.args.out.now) (row).picked;
+    }
