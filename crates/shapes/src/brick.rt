@@ -19,7 +19,7 @@ pub const QUADS: usize = 24;
 const NONE: usize = 6;
 
 // The side face at each of the four bottom edges.
-#[derive(Drop)]
+#[derive(Clone, Copy)]
 pub struct Sides {
     pub first: usize,
     pub second: usize,
