@@ -24,7 +24,7 @@ pub enum Codimension {
 // What `subentities` answers: the refusal, 0 if there is none, and the kind and count of what it
 // wrote, with a second pair for the faces of a WEDGE6; all 0 in a refusal.
 #[repr(C)]
-#[derive(Drop)]
+#[derive(Clone, Copy)]
 pub struct Parts {
     pub refusal: u64,
     pub kind: u64,

@@ -6,7 +6,7 @@ use super::words::LONGEST;
 use parts::subentities::Parts;
 use records::wire::two_at;
 
-#[derive(Drop)]
+#[derive(Clone, Copy)]
 pub struct Head {
     // 1 to 7, or 0 for no operation.
     pub operation: usize,

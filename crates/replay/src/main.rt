@@ -5,8 +5,8 @@
 ghost use Rattle.std.specs.Prelude.{◌<◌, ◌≤◌, length};
 ghost use Rattle.replay.specs.Inner.Stored.{Fits};
 
-use libc::{STDIN_FILENO, STDOUT_FILENO};
 use parts::subentities::Parts;
+use std::io::{Print, Stdin, Stdout};
 
 mod call;
 mod head;
@@ -14,35 +14,35 @@ mod words;
 
 use call::{call, same_numbers};
 use head::{Head, head_of};
-use words::{fill, of_patterns, read_words, same};
+use words::{fill, of_patterns, read_full, read_words, same};
 
 // The counts stand at the operations' numbers, 1 to 7; those of no operation at 0.
-fn main() {
+fn main(rt: HostRuntime) {
     let mut equal = [0u64; 8];
     let mut different = [0u64; 8];
-    replay(&mut equal, &mut different);
-    report(&equal, &different);
+    replay(rt.stdin(), &mut equal, &mut different);
+    report(rt.stdout(), &equal, &different);
 }
 
 // A proved loop has to end, and nothing says that the input does, so the calls are counted down
 // from a number that no run uses up.
-fn replay(equal: &mut [u64; 8], different: &mut [u64; 8]) {
+fn replay(stdin: Stdin, equal: &mut [u64; 8], different: &mut [u64; 8]) {
     let mut left = u64::MAX;
-    while 0 < left && replay_one(equal, different) {
+    while 0 < left && replay_one(stdin, equal, different) {
         left -= 1;
     }
 }
 
 // The next stored call, counted; false where there is none.
-fn replay_one(equal: &mut [u64; 8], different: &mut [u64; 8]) -> bool {
+fn replay_one(stdin: Stdin, equal: &mut [u64; 8], different: &mut [u64; 8]) -> bool {
     let mut bytes = [0u8; 32];
-    let got = io::read_full(STDIN_FILENO, &mut bytes);
+    let got = read_full(stdin, &mut bytes);
     if got == 0 {
         return false;
     }
     let head = head_of(&bytes);
     let operation = head.operation;
-    if repeats(head) {
+    if repeats(stdin, head) {
         count(equal, operation);
     } else {
         count(different, operation);
@@ -57,7 +57,7 @@ fn count(counts: &mut [u64; 8], operation: usize)
 }
 
 // Whether the operation gives again what is stored.
-fn repeats(head: Head) -> bool
+fn repeats(stdin: Stdin, head: Head) -> bool
     requires { Fits head }
 {
     let mut ids = [0u64; 4200];
@@ -65,14 +65,14 @@ fn repeats(head: Head) -> bool
     let mut points = [0.0; 4200];
     let mut out = [0u64; 4200];
     let mut ends = [0u64; 4200];
-    let read = read_words(head.ids, &mut ids) & read_words(head.points, &mut patterns);
+    let read = read_words(stdin, head.ids, &mut ids) & read_words(stdin, head.points, &mut patterns);
     of_patterns(&patterns, &mut points);
     fill(&mut out);
     fill(&mut ends);
     let answer = lend(head, &ids, &points, &mut out, &mut ends);
     let stored = head.answer;
-    let same_out = holds(head.out, &out);
-    let same_ends = holds(head.ends, &ends);
+    let same_out = holds(stdin, head.out, &out);
+    let same_ends = holds(stdin, head.ends, &ends);
     read & same_numbers(answer, stored) & same_out & same_ends
 }
 
@@ -109,33 +109,33 @@ fn lend_fronts(head: Head, ids: &[u64], points: &[f64], out: &mut [u64], ends: &
 }
 
 // Whether a lent output holds the words that are stored next.
-fn holds(n: usize, held: &[u64; 4200]) -> bool
+fn holds(stdin: Stdin, n: usize, held: &[u64; 4200]) -> bool
     requires { n ≤ 4200 }
 {
     let mut stored = [0u64; 4200];
-    let read = read_words(n, &mut stored);
+    let read = read_words(stdin, n, &mut stored);
     read & same(n, held, &stored)
 }
 
-fn report(equal: &[u64; 8], different: &[u64; 8]) {
-    print_counts(b"no operation  ", equal[0], different[0]);
-    print_counts(b"subentities   ", equal[1], different[1]);
-    print_counts(b"subentities_of", equal[2], different[2]);
-    print_counts(b"to_poly       ", equal[3], different[3]);
-    print_counts(b"from_poly     ", equal[4], different[4]);
-    print_counts(b"to_simplexes  ", equal[5], different[5]);
-    print_counts(b"reorient      ", equal[6], different[6]);
-    print_counts(b"split_block   ", equal[7], different[7]);
-    print_counts(b"replay        ", sum(equal), sum(different));
+fn report(stdout: Stdout, equal: &[u64; 8], different: &[u64; 8]) {
+    print_counts(stdout, b"no operation  ", equal[0], different[0]);
+    print_counts(stdout, b"subentities   ", equal[1], different[1]);
+    print_counts(stdout, b"subentities_of", equal[2], different[2]);
+    print_counts(stdout, b"to_poly       ", equal[3], different[3]);
+    print_counts(stdout, b"from_poly     ", equal[4], different[4]);
+    print_counts(stdout, b"to_simplexes  ", equal[5], different[5]);
+    print_counts(stdout, b"reorient      ", equal[6], different[6]);
+    print_counts(stdout, b"split_block   ", equal[7], different[7]);
+    print_counts(stdout, b"replay        ", sum(equal), sum(different));
 }
 
-fn print_counts(name: &[u8], equal: u64, different: u64) {
-    io::write_all(STDOUT_FILENO, name);
-    io::write_all(STDOUT_FILENO, b" equal ");
-    io::print_decimal(STDOUT_FILENO, equal);
-    io::write_all(STDOUT_FILENO, b" different ");
-    io::print_decimal(STDOUT_FILENO, different);
-    io::write_all(STDOUT_FILENO, b"\n");
+fn print_counts(stdout: Stdout, name: &[u8], equal: u64, different: u64) {
+    let _ = stdout.write_all(name);
+    let _ = stdout.write_all(b" equal ");
+    let _ = stdout.print(equal);
+    let _ = stdout.write_all(b" different ");
+    let _ = stdout.print(different);
+    let _ = stdout.write_all(b"\n");
 }
 
 fn sum(counts: &[u64; 8]) -> u64 {

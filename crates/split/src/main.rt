@@ -8,11 +8,11 @@ ghost use Rattle.split.specs.Inner.State.{Countable, Counted, Sound};
 ghost use Rattle.split.specs.Text.{cell_text, split_text};
 
 use base::refusals::{Answer, Refusal};
-use libc::{STDIN_FILENO, STDOUT_FILENO};
 use records::frame::{Frame, frame_at};
 use records::text::{put_end, put_record};
 use records::wire::read_ids;
 use simplexes::to_simplexes;
+use std::io::{Print, Read, Stdin, Stdout};
 
 // Either buffer; a record and the text of a record fit twice over.
 type Buffer = [u8; 65536];
@@ -21,7 +21,7 @@ type Buffer = [u8; 65536];
 type Ids = [u64; 4096];
 
 // What is in hand between two steps.
-#[derive(Drop)]
+#[derive(Clone, Copy)]
 struct State {
     // The input's bytes from..to are read and not used yet.
     from: usize,
@@ -45,15 +45,15 @@ impl State {
     const FULL: usize = 65536 - State::LONGEST_TEXT;
 }
 
-fn main() {
-    let mut input = io::large_buffer();
-    let mut output = io::large_buffer();
-    run(&mut input, &mut output);
+fn main(rt: HostRuntime) {
+    let mut input = [0u8; 65536];
+    let mut output = [0u8; 65536];
+    run(rt.stdin(), rt.stdout(), &mut input, &mut output);
 }
 
 // A proved loop has to end, and nothing says that the input does, so the steps are counted down
 // from a number that no run uses up.
-fn run(input: &mut Buffer, output: &mut Buffer) {
+fn run(stdin: Stdin, stdout: Stdout, input: &mut Buffer, output: &mut Buffer) {
     let mut ids = [0u64; 4096];
     let mut state = State {
         from: 0,
@@ -66,27 +66,27 @@ fn run(input: &mut Buffer, output: &mut Buffer) {
     };
     let mut steps = u64::MAX;
     while 0 < steps && state.go {
-        state = step(state, input, &mut ids, output);
+        state = step(stdin, stdout, state, input, &mut ids, output);
         steps -= 1;
     }
-    finish(state, output);
+    finish(stdout, state, output);
 }
 
 // The last line, and all that is not written yet.
-fn finish(state: State, output: &mut Buffer)
+fn finish(stdout: Stdout, state: State, output: &mut Buffer)
     requires { state.used ≤ 65536 }
 {
-    let ready = with_room(state, output);
+    let ready = with_room(stdout, state, output);
     if ready.broken {
         return;
     }
     let used = ready.used;
     let end = put_end(ready.begun, output, used);
-    write_front(output, end);
+    write_front(stdout, output, end);
 }
 
 // One record, one read, or the end.
-fn step(state: State, input: &mut Buffer, ids: &mut Ids, output: &mut Buffer) -> State
+fn step(stdin: Stdin, stdout: Stdout, state: State, input: &mut Buffer, ids: &mut Ids, output: &mut Buffer) -> State
     requires { Sound state × Countable state }
     ensures { Sound result × Counted state result }
 {
@@ -99,10 +99,10 @@ fn step(state: State, input: &mut Buffer, ids: &mut Ids, output: &mut Buffer) ->
             start,
             count: _,
             next,
-        } => print_record(state, kind, input, start, next, ids, output),
-        Frame::End => stop_or_refill(state, input),
-        Frame::Cut => refuse_or_refill(state, input, output),
-        Frame::Odd => refuse(state, output),
+        } => print_record(stdout, state, kind, input, start, next, ids, output),
+        Frame::End => stop_or_refill(stdin, state, input),
+        Frame::Cut => refuse_or_refill(stdin, stdout, state, input, output),
+        Frame::Odd => refuse(stdout, state, output),
     }
 }
 
@@ -115,25 +115,25 @@ fn look(input: &[u8], from: usize, to: usize) -> Frame
 }
 
 // Bytes that end between two records: the input's end, or a read is due.
-fn stop_or_refill(state: State, input: &mut Buffer) -> State
+fn stop_or_refill(stdin: Stdin, state: State, input: &mut Buffer) -> State
     requires { Sound state }
     ensures { Sound result × (result.begun ≡ state.begun) }
 {
     if state.ended {
         return stopped(state);
     }
-    refill(state, input)
+    refill(stdin, state, input)
 }
 
 // Bytes that end within a record: it is cut short, or a read is due.
-fn refuse_or_refill(state: State, input: &mut Buffer, output: &mut Buffer) -> State
+fn refuse_or_refill(stdin: Stdin, stdout: Stdout, state: State, input: &mut Buffer, output: &mut Buffer) -> State
     requires { Sound state × Countable state }
     ensures { Sound result × Counted state result }
 {
     if state.ended {
-        return refuse(state, output);
+        return refuse(stdout, state, output);
     }
-    refill(state, input)
+    refill(stdin, state, input)
 }
 
 // The state with no more to do.
@@ -146,7 +146,7 @@ fn stopped(state: State) -> State
 }
 
 // The bytes in hand to the front of the input, and one read behind them.
-fn refill(state: State, input: &mut Buffer) -> State
+fn refill(stdin: Stdin, state: State, input: &mut Buffer) -> State
     requires { Sound state }
     ensures { Sound result × (result.begun ≡ state.begun) }
 {
@@ -156,7 +156,7 @@ fn refill(state: State, input: &mut Buffer) -> State
         shift(input, from, to);
     }
     let kept = to - from;
-    let got = read_behind(input, kept);
+    let got = read_behind(stdin, input, kept);
     State {
         from: 0,
         to: kept + got,
@@ -179,22 +179,24 @@ fn shift(bytes: &mut Buffer, from: usize, to: usize)
     }
 }
 
-// One read into the bytes from a place on, and how many came; 0 at the end of the input.
-fn read_behind(bytes: &mut [u8], at: usize) -> usize
+// One read into the bytes from a place on, and how many came; 0 at the end of the input, or where the read fails.
+fn read_behind(mut stdin: Stdin, bytes: &mut [u8], at: usize) -> usize
     requires { at ≤ length bytes.old }
     ensures { at + result ≤ length bytes.old }
 {
     let part = &mut bytes[at..];
-    let got = libc::read(STDIN_FILENO, part);
-    io::count(got, part)
+    match stdin.read(part) {
+        Ok(got) => got,
+        Err(_) => 0,
+    }
 }
 
 // A record that is cut short or odd gets its line and ends the run.
-fn refuse(state: State, output: &mut Buffer) -> State
+fn refuse(stdout: Stdout, state: State, output: &mut Buffer) -> State
     requires { Sound state × Countable state }
     ensures { Sound result × Counted state result }
 {
-    let ready = with_room(state, output);
+    let ready = with_room(stdout, state, output);
     let used = ready.used;
     let none = [0u64; 1];
     let next_used = put_record(
@@ -209,6 +211,7 @@ fn refuse(state: State, output: &mut Buffer) -> State
 
 // A whole record gets its text, and the next record is in hand.
 fn print_record(
+    stdout: Stdout,
     state: State,
     kind: u64,
     input: &Buffer,
@@ -221,7 +224,7 @@ fn print_record(
     requires start_le_next { (start ≤ next) × (next ≤ start + 32768) × ((next - start) % 8 ≡ 0) }
     ensures { Sound result × Counted state result }
 {
-    let ready = with_room(state, output);
+    let ready = with_room(stdout, state, output);
     let used = ready.used;
     let next_used = put_split(ready.begun, kind, input, start, next, ids, output, used);
     printed(ready, next, next_used)
@@ -275,7 +278,7 @@ fn put_cell(number: u64, kind: u64, ids: &[u64], output: &mut [u8], at: usize) -
 }
 
 // Writes the output out where the text of a record might not fit any more.
-fn with_room(state: State, output: &Buffer) -> State
+fn with_room(stdout: Stdout, state: State, output: &Buffer) -> State
     requires { state.used ≤ 65536 }
     ensures { (result.from ≡ state.from) × (result.to ≡ state.to) × (result.used + 693 ≤ 65536) × (result.begun ≡ state.begun) }
 {
@@ -285,7 +288,7 @@ fn with_room(state: State, output: &Buffer) -> State
     }
     let mut ready = state;
     ready.used = 0;
-    if write_front(output, used) {
+    if write_front(stdout, output, used) {
         return ready;
     }
     ready.broken = true;
@@ -294,8 +297,8 @@ fn with_room(state: State, output: &Buffer) -> State
 }
 
 // Writes the first n bytes, and answers whether all were taken.
-fn write_front(bytes: &[u8], n: usize) -> bool
+fn write_front(stdout: Stdout, bytes: &[u8], n: usize) -> bool
     requires { n ≤ length bytes.now }
 {
-    io::write_all(STDOUT_FILENO, &bytes[0..n])
+    stdout.write_all(&bytes[0..n]).is_ok()
 }
