@@ -11,7 +11,7 @@ use lib.Seq.{drop-cons, drop-drop, length-take-le}
 use lib.Dec.{eqb}
 use Rattle.base.specs.Kinds.{separator}
 use Rattle.faces.specs.declared.Face.{Face}
-use Rattle.faces.specs.Faces.{Runs, onto, runs, lead, full, faces}
+use Rattle.faces.specs.Faces.{onto, runs, lead, full, faces}
 use Rattle.faces.specs.Inner.Walk.{agree, span, start_of, end_of, next_face, part}
 
 -- one step of the walk over a span, where the test p of the entry at i is r

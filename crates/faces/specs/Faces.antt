@@ -1,5 +1,5 @@
 -- The faces of a PHED: the runs of its list between separators, empty ones left out.
-use Rattle.std.specs.Prelude.{ℕ, ◌+◌, List, [], ◌∷◌, ◌++◌, Bool, true, false, eqb}
+use Rattle.std.specs.Prelude.{ℕ, List, [], ◌∷◌, ◌++◌, Bool, true, false, eqb}
 use Rattle.base.specs.Kinds.{separator}
 
 -- the runs between separators, empty ones too: the first, and those after it

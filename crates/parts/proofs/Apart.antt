@@ -1,11 +1,11 @@
 -- Laws of faces written one after another: what is left of the whole shrinks by the face that is written.
 use mathlib.Core.Path.{◌≡◌, refl, sym, ap, ◌∙◌}
-use mathlib.Core.List.{List, [], ◌∷◌, ◌++◌, flatten, append_assoc, append-nil}
-use Prim.Native.Nat.{ℕ, suc, ◌+◌, ◌-◌, ◌<◌, ◌≤◌}
+use mathlib.Core.List.{List, [], ◌∷◌, ◌++◌, flatten, append_assoc}
+use Prim.Native.Nat.{ℕ, suc, ◌+◌, ◌≤◌}
 use native.Mathlib.Nat.{add-zero}
 use native.Mathlib.Omega.{arith}
 use lib.ListN.{length, get_or, take, drop, length-append, length-drop}
-use lib.Seq.{take_at, drop_at, take-append_seam, drop-append_seam, drop-drop, take-add, get_or-drop, take_all, length-take-le}
+use lib.Seq.{take_at, drop_at, take-append_seam, drop-append_seam, drop-drop, take-add, get_or-drop, length-take-le}
 use Rattle.base.specs.Outcome.{overwrite}
 use Rattle.base.proofs.Lists.{front_whole}
 use Rattle.parts.specs.Subentities.{ends_from}

@@ -13,7 +13,7 @@ use Rattle.base.specs.Kinds.{separator, nodes_of}
 use Rattle.base.proofs.Accepted.{element_accepted, element_nodes}
 use Rattle.base.proofs.Picks.{length-pick, pick-append}
 use Rattle.base.proofs.Tests.{and-true}
-use Rattle.faces.specs.Faces.{Runs, onto, runs, lead, full, faces, further, joined}
+use Rattle.faces.specs.Faces.{onto, runs, lead, full, faces, further, joined}
 use Rattle.parts.specs.Tables.{parts_of, table_of}
 use Rattle.parts.specs.Poly.{poly_parts, rows_of, poly_ids}
 

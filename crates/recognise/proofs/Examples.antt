@@ -1,7 +1,7 @@
 -- Document 01's examples of recognition, the round trips among them, and an input of each refusal: one table, one theorem.
 use Prim.Native.Nat.{ℕ}
 use mathlib.Core.Path.{◌≡◌, refl}
-use mathlib.Core.List.{List, [], ◌∷◌, ◌++◌, map}
+use mathlib.Core.List.{List, [], ◌∷◌, map}
 use Rattle.base.specs.Kinds.{separator, nodes_of}
 use Rattle.base.specs.Checks.{element_fits, element_refusal, holds_separator, input_refusal, strays}
 use Rattle.base.specs.Gather.{digits}

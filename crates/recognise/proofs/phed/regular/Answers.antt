@@ -1,7 +1,7 @@
 -- `phed::regular` meets its contract: each return knows how the tests above it went, and the nodes of four triangles
 -- are twelve, those of six quads twenty-four.
 use mathlib.Core.Path.{◌≡◌, ap, ◌∙◌}
-use borrow.Author.Tests.{eq-eqb, ne_eqb, not-true, not-false}
+use borrow.Author.Tests.{eq-eqb, ne_eqb}
 use native.Mathlib.Omega.{arith}
 use lib.ListN.{length}
 use Rattle.faces.specs.Faces.{faces}
