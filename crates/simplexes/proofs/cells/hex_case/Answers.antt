@@ -9,7 +9,7 @@ use Rattle.simplexes.proofs.cells.hex_case.Goals as goal
 
 pub returns : goal.returns
 returns c =
-    let cell = c.args.t1 in
+    let cell = c.args.cell in
     let eight : length cell ≡ 8 = search rules in
     let e1 = c.on_first-on46.ensures ∙ ap first_diagonal (quad_read cell 4 5 6 7 (omega arith) (omega arith) (omega arith) (omega arith)) in
     let e2 = c.on_first-on16.ensures ∙ ap first_diagonal (quad_read cell 1 2 6 5 (omega arith) (omega arith) (omega arith) (omega arith)) in

@@ -31,4 +31,4 @@ returns c =
     let w = c.requires.2 a.at c.requires.0 in
     let lt : d - 48 < length ids = omega (arith, w.0, w.1) in
     ap (set a.out.now a.at)
-    (ap (λ (@{After-corner_of} : ℕ). get_or ids @{After-corner_of} 0) c.corner_of-corner.ensures ∙ within_default ids (d - 48) 0 separator lt ∙ sym (undigit_at ids string a.at c.requires.0))
+    (ap (λ (k : ℕ). get_or ids k 0) c.corner_of-corner.ensures ∙ within_default ids (d - 48) 0 separator lt ∙ sym (undigit_at ids string a.at c.requires.0))

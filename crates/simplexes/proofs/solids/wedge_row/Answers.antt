@@ -5,12 +5,12 @@ use Rattle.cuts.proofs.Table.{wedge-place_is}
 use Rattle.simplexes.proofs.solids.wedge_row.Goals as goal
 
 pub quad_first-requires : goal.quad_first-requires
-quad_first-requires c = rw (c.requires.0, c.requires.1) (quad_within c.smallest-of-six??.result c.smallest-of-six??.ensures.1)
+quad_first-requires c = rw (c.requires.0, c.requires.1) (quad_within c.smallest_of_six-place.result c.smallest_of_six-place.ensures.1)
 
 pub returns : goal.returns
 returns c =
-    let place = c.smallest-of-six??.ensures in (
-      wedge-place_is c.args.ids.now c.args.quads.now c.smallest-of-six??.result c.quad_first.result c.second.result
+    let place = c.smallest_of_six-place.ensures in (
+      wedge-place_is c.args.ids.now c.args.quads.now c.smallest_of_six-place.result c.quad_first.result c.second.result
           c.requires.0 place.0 place.1 c.quad_first.ensures c.second.ensures.0,
       omega (arith, c.second.ensures.1, place.1),
     )

@@ -29,15 +29,15 @@ bounds-table-row c =
 pub put-requires : goal.put-requires
 put-requires c =
     let few : c.args.row < 64 = rw c.requires.table_value.2 (place_few c.args.ids.now) in
-    let row : RowIs c.args.ids.now (get_or c.args.table.now c.args.row []) c.row_count??.result = row_is _ _ _ _ c.requires.table_value.2 (ap (λ (t : List (List ℕ)). get_or t c.args.row []) c.requires.table_value.0) c.row_count??.ensures.0 in (
-      omega (arith, c.row_count??.ensures.1),
+    let row : RowIs c.args.ids.now (get_or c.args.table.now c.args.row []) c.row_count-count.result = row_is _ _ _ _ c.requires.table_value.2 (ap (λ (t : List (List ℕ)). get_or t c.args.row []) c.requires.table_value.0) c.row_count-count.ensures.0 in (
+      omega (arith, c.row_count-count.ensures.1),
       omega (arith, (row).counted, length-simplexes 4 (hex_cut c.args.ids.now), c.requires.ids_in_bounds),
       rw (c.requires.table_value.0, c.requires.table_value.1) (hex_within c.args.row (few)),
     )
 
 pub returns : goal.returns
 returns c =
-    let row : RowIs c.args.ids.now (get_or c.args.table.now c.args.row []) c.row_count??.result = row_is _ _ _ _ c.requires.table_value.2 (ap (λ (t : List (List ℕ)). get_or t c.args.row []) c.requires.table_value.0) c.row_count??.ensures.0 in
+    let row : RowIs c.args.ids.now (get_or c.args.table.now c.args.row []) c.row_count-count.result = row_is _ _ _ _ c.requires.table_value.2 (ap (λ (t : List (List ℕ)). get_or t c.args.row []) c.requires.table_value.0) c.row_count-count.ensures.0 in
     record {
       counted = (row).counted;
       written = c.put.ensures ∙ ap (λ (xs : List ℕ). overwrite xs c.args.out.now) (row).picked;
