@@ -6,4 +6,4 @@ use Rattle.winding.proofs.point.has_none.Goals as goal
 pub returns : goal.returns
 returns c =
     let a = c.args in
-    rw c.wrapping_add_u64.ensures (wrapped_test a.count a.id (omega arith))
+    rw c.wrapping_add_u64.ensures.value (wrapped_test a.count a.id (omega arith))

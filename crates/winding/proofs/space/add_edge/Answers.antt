@@ -4,12 +4,12 @@ use Rattle.winding.proofs.space.add_edge.Goals as goal
 
 pub returns-in-Space-to : goal.returns-in-Space-to
 unfolding add_edge
-returns-in-Space-to c = rw (c.from-1.given.1, c.to-1.given.1)
+returns-in-Space-to c = rw (c.in-Space.is, c.in-Space-to.is)
 
 pub returns-in-Plane-to : goal.returns-in-Plane-to
 unfolding add_edge
-returns-in-Plane-to c = rw (c.from-1.given.1, c.enum_told-1.given.1)
+returns-in-Plane-to c = rw (c.in-Space.is, c.in-Plane-to.is)
 
 pub returns-in-Plane : goal.returns-in-Plane
 unfolding add_edge
-returns-in-Plane c = rw c.enum_told-in-Plane-1.given.1
+returns-in-Plane c = rw c.in-Plane.is

@@ -5,8 +5,8 @@ use Rattle.winding.proofs.space.dot_from.Goals as goal
 
 pub returns-in-Space : goal.returns-in-Space
 unfolding dot_from
-returns-in-Space c = rw c.point-1.given.1
+returns-in-Space c = rw c.in-Space.is
 
 pub returns-in-Plane : goal.returns-in-Plane
 unfolding dot_from of_bits
-returns-in-Plane c = rw c.enum_told-1.given.1
+returns-in-Plane c = rw c.in-Plane.is

@@ -61,9 +61,9 @@ loop-i-preserved c =
     let i = c.loop-i.i in
     let k = c.loop-i.invariant.1 c.loop-i-test.true in (
       add-one-le c.loop-i-test.true,
-      λ more. rw (c.wrapping_add_usize-k.ensures, k, c.step_of-step.ensures)
+      λ more. rw (c.wrapping_add_usize-k.ensures.value, k, c.step_of-step.ensures)
           (source_step a.back (length run) i (omega arith) more),
-      ap₂ (λ (@{At-loop} : List ℕ) (v : ℕ). set @{At-loop} (a.at + i) v) c.loop-i.invariant.2
+      ap₂ (λ (w : List ℕ) (v : ℕ). set w (a.at + i) v) c.loop-i.invariant.2
           (ap (λ (k : ℕ). get_or run k 0) k ∙ get_d_turned a.back run i c.loop-i-test.true)
           ∙ paste-suc a.out.now a.at turn i 0 (omega arith) (omega (arith, length-turned a.back run))
           ∙ ap (λ (k : ℕ). paste a.out.now a.at turn k) (sym (add-one i)),
