@@ -65,7 +65,8 @@ fn repeats(stdin: Stdin, head: Head) -> bool
     let mut points = [0.0; 4200];
     let mut out = [0u64; 4200];
     let mut ends = [0u64; 4200];
-    let read = read_words(stdin, head.ids, &mut ids) & read_words(stdin, head.points, &mut patterns);
+    let read = read_words(stdin, head.ids, &mut ids)
+        & read_words(stdin, head.points, &mut patterns);
     of_patterns(&patterns, &mut points);
     fill(&mut out);
     fill(&mut ends);

@@ -86,7 +86,14 @@ fn finish(stdout: Stdout, state: State, output: &mut Buffer)
 }
 
 // One record, one read, or the end.
-fn step(stdin: Stdin, stdout: Stdout, state: State, input: &mut Buffer, ids: &mut Ids, output: &mut Buffer) -> State
+fn step(
+    stdin: Stdin,
+    stdout: Stdout,
+    state: State,
+    input: &mut Buffer,
+    ids: &mut Ids,
+    output: &mut Buffer,
+) -> State
     requires { Sound state × Countable state }
     ensures { Sound result × Counted state result }
 {
@@ -126,7 +133,13 @@ fn stop_or_refill(stdin: Stdin, state: State, input: &mut Buffer) -> State
 }
 
 // Bytes that end within a record: it is cut short, or a read is due.
-fn refuse_or_refill(stdin: Stdin, stdout: Stdout, state: State, input: &mut Buffer, output: &mut Buffer) -> State
+fn refuse_or_refill(
+    stdin: Stdin,
+    stdout: Stdout,
+    state: State,
+    input: &mut Buffer,
+    output: &mut Buffer,
+) -> State
     requires { Sound state × Countable state }
     ensures { Sound result × Counted state result }
 {
