@@ -8,19 +8,19 @@
 # make fmt          lay out every Rattle file
 # make clean        remove what was built
 
-KIT := rattle-kit-5b logic 064da1ca440f63e7
+KIT := rattle-kit-13f logic dac8208d650f15bf
 
 .PHONY: all test demo compare bench instructions vectors fmt clean kit
 
 all: kit
-	@rt check
-	@rt staticlib tallyspool
+	@rt all check
+	@host/build
 
 test: kit
 	@sh host/test
 
 demo: kit
-	@mkdir -p target && rt check split >target/demo.log 2>&1 || { cat target/demo.log; exit 1; }
+	@host/build split
 	@sh samples/demo
 
 compare: all
@@ -37,10 +37,10 @@ vectors: all
 	@host/compare/vectors
 
 fmt: kit
-	@rt fmt
+	@for crate in crates/*/; do (cd "$$crate" && rt fmt) || exit 1; done
 
 clean:
-	@rm -rf target
+	@rm -rf target crates/*/out
 
 kit:
 	@command -v rt >/dev/null || { \

@@ -1,7 +1,7 @@
 /*
  * Tallyspool: cuts bricks and prisms into tetrahedra, without a slit between neighbours.
  *
- * Link with libtallyspool.a (`rt staticlib tallyspool`, x86-64 Linux). Every function here is proved
+ * Link with libtallyspool.a (`host/build tallyspool`, x86-64 Linux). Every function here is proved
  * to meet the contract that the sentences below put into words.
  *
  * WHAT A HOST OWES, at every call:

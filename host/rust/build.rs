@@ -1,5 +1,5 @@
 //! Finds the proved archive: in the directory that `TALLYSPOOL_LIB_DIR` names, or else where
-//! `rt staticlib tallyspool` leaves it in this repository.
+//! `host/build tallyspool` leaves it in this repository.
 use std::env;
 use std::path::PathBuf;
 
@@ -12,7 +12,7 @@ fn main() {
     let archive = dir.join("libtallyspool.a");
     if !archive.is_file() {
         panic!(
-            "{} is not there: run `rt staticlib tallyspool` at the root of the repository, or set TALLYSPOOL_LIB_DIR",
+            "{} is not there: run `host/build tallyspool` at the root of the repository, or set TALLYSPOOL_LIB_DIR",
             archive.display()
         );
     }
