@@ -1,5 +1,5 @@
 -- `has_room` meets its contract: every kind but the brick takes what it takes at most, and a brick is counted.
-use borrow.Author.Tests.{le-leb, lt-leb, leb-false, eqb-false}
+use borrow.Author.Tests.{leb-false, eqb-false}
 use mathlib.Core.Path.{◌≡◌, refl, sym, ◌∙◌, ap}
 use mathlib.Core.Bool.{Bool, true, false, cond}
 use mathlib.Core.List.{List}
@@ -26,17 +26,6 @@ ruled kind ids h = go (leb 17 kind) refl
 counted : (kind : ℕ) (ids : List ℕ) → 15 ≤ kind → kind < 17 → split_count 15 ids * 4 ≡ length (split kind ids)
 unfolding split_count cut
 counted kind ids l h = sym (split_size kind ids 4 (hex_cut ids) (hex_is kind ids l h) _ refl)
-
-pub returns-then-most_ids-room : goal.returns-then-most_ids-room
-returns-then-most_ids-room c =
-    let a = c.args in
-    sym (le-leb (length (split a.kind a.ids.now)) a.room (omega (arith, (c.most_ids.ensures a.ids.now).0, c.if-most_ids-room.true)))
-
-pub returns-then-kind-lt-HEX8 : goal.returns-then-kind-lt-HEX8
-returns-then-kind-lt-HEX8 c =
-    let a = c.args in
-    let e = (c.most_ids.ensures a.ids.now).1 c.if-kind-lt-HEX8.true in
-    sym (lt-leb (length (split a.kind a.ids.now)) a.room (omega (arith, e, c.if-most_ids-room.false)))
 
 pub returns : goal.returns
 returns c =

@@ -14,12 +14,6 @@ returns-then-refusal-ne0 c =
     rw (settle_refuses _ _ _ _ _ (rw c.split_refusal-refusal.ensures at c.if-refusal-ne0.true))
     (record { answered = c.refused.ensures ∙ ap refused c.split_refusal-refusal.ensures; left = refl })
 
-pub write_cell-count-requires : goal.write_cell-count-requires
-write_cell-count-requires c =
-    let room : let a = c.args in
-    length (split a.kind a.ids.now) ≤ length a.out.now = leb-true _ _ (sym c.has_room.ensures ∙ c.if-has_room.true) in
-    room
-
 pub returns-then-has_room : goal.returns-then-has_room
 unfolding to_simplexes split split_count
 returns-then-has_room c =

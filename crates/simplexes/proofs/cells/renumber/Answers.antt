@@ -4,9 +4,6 @@ use Rattle.cuts.proofs.Strings.{turn_within}
 use Rattle.cuts.proofs.Table.{turned}
 use Rattle.simplexes.proofs.cells.renumber.Goals as goal
 
-pub smallest_of_eight-place-requires : goal.smallest_of_eight-place-requires
-smallest_of_eight-place-requires c = c.if-ids-eq-HEX8_NODES.true
-
 pub renumber-requires : goal.renumber-requires
 renumber-requires c = rw (c.renumberings-rows.ensures, c.if-ids-eq-HEX8_NODES.true) (turn_within c.smallest_of_eight-place.result c.smallest_of_eight-place.ensures.1)
 
@@ -15,6 +12,3 @@ returns-then-ids-eq-HEX8_NODES c =
     let place = c.smallest_of_eight-place.ensures in
     c.renumber.ensures
     ∙ turned c.args.ids.now c.renumberings-rows.result c.smallest_of_eight-place.result c.renumberings-rows.ensures place.0 place.1
-
-pub returns : goal.returns
-returns c = c.renumber_any.ensures

@@ -34,16 +34,10 @@ pub gather_digits-requires : goal.gather_digits-requires
 gather_digits-requires c =
     let kind = c.args.kind in
     let ids = c.args.ids.now in
-    row_room kind ids _ (tet_rows) (tet_is kind ids (omega arith) (omega arith)) (48 ∷ 49 ∷ 50 ∷ 51 ∷ []) c.args.out.now refl c.requires
+    row_room kind ids _ tet_rows (tet_is kind ids (omega arith) (omega arith)) (48 ∷ 49 ∷ 50 ∷ 51 ∷ []) c.args.out.now refl c.requires
 
 pub returns-then-kind-ge-TET4 : goal.returns-then-kind-ge-TET4
 returns-then-kind-ge-TET4 c =
     let kind = c.args.kind in
     let ids = c.args.ids.now in
-    row_written kind ids _ (tet_rows) (tet_is kind ids (omega arith) (omega arith)) (48 ∷ 49 ∷ 50 ∷ 51 ∷ []) c.args.out.now refl _ _ refl c.gather_digits.ensures
-
-pub write_flat-requires : goal.write_flat-requires
-write_flat-requires c = (omega arith, c.requires)
-
-pub returns : goal.returns
-returns c = c.write_flat.ensures
+    row_written kind ids _ tet_rows (tet_is kind ids (omega arith) (omega arith)) (48 ∷ 49 ∷ 50 ∷ 51 ∷ []) c.args.out.now refl _ _ refl c.gather_digits.ensures

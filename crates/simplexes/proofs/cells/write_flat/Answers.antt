@@ -25,13 +25,13 @@ pub gather_digits-requires-then-kind-ge-TRI3 : goal.gather_digits-requires-then-
 gather_digits-requires-then-kind-ge-TRI3 c =
     let kind = c.args.kind in
     let ids = c.args.ids.now in
-    row_room kind ids _ (tri_rows) (tri_is kind ids (omega arith) (omega arith) (omega arith)) (48 ∷ 49 ∷ 50 ∷ []) c.args.out.now refl c.requires.1
+    row_room kind ids _ tri_rows (tri_is kind ids (omega arith) (omega arith) (omega arith)) (48 ∷ 49 ∷ 50 ∷ []) c.args.out.now refl c.requires.1
 
 pub returns-then-kind-ge-TRI3 : goal.returns-then-kind-ge-TRI3
 returns-then-kind-ge-TRI3 c =
     let kind = c.args.kind in
     let ids = c.args.ids.now in
-    row_written kind ids _ (tri_rows) (tri_is kind ids (omega arith) (omega arith) (omega arith)) (48 ∷ 49 ∷ 50 ∷ []) c.args.out.now refl _ _ refl c.gather_digits-then-kind-ge-TRI3.ensures
+    row_written kind ids _ tri_rows (tri_is kind ids (omega arith) (omega arith) (omega arith)) (48 ∷ 49 ∷ 50 ∷ []) c.args.out.now refl _ _ refl c.gather_digits-then-kind-ge-TRI3.ensures
 
 pub gather_digits-requires-then-kind-ge-SEG2 : goal.gather_digits-requires-then-kind-ge-SEG2
 gather_digits-requires-then-kind-ge-SEG2 c =
@@ -49,13 +49,13 @@ pub gather_digits-requires-then-kind-ge-VERTEX : goal.gather_digits-requires-the
 gather_digits-requires-then-kind-ge-VERTEX c =
     let kind = c.args.kind in
     let ids = c.args.ids.now in
-    row_room kind ids _ (vertex_rows) (vertex_is kind ids (omega arith) (omega arith)) (48 ∷ []) c.args.out.now refl c.requires.1
+    row_room kind ids _ vertex_rows (vertex_is kind ids (omega arith) (omega arith)) (48 ∷ []) c.args.out.now refl c.requires.1
 
 pub returns-then-kind-ge-VERTEX : goal.returns-then-kind-ge-VERTEX
 returns-then-kind-ge-VERTEX c =
     let kind = c.args.kind in
     let ids = c.args.ids.now in
-    row_written kind ids _ (vertex_rows) (vertex_is kind ids (omega arith) (omega arith)) (48 ∷ []) c.args.out.now refl _ _ refl c.gather_digits-then-kind-ge-VERTEX.ensures
+    row_written kind ids _ vertex_rows (vertex_is kind ids (omega arith) (omega arith)) (48 ∷ []) c.args.out.now refl _ _ refl c.gather_digits-then-kind-ge-VERTEX.ensures
 
 pub returns : goal.returns
 returns c = none_written c.args.kind c.args.ids.now c.args.out.now (none_is _ _ (omega arith) (omega arith))

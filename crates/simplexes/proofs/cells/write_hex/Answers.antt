@@ -23,7 +23,7 @@ put-requires c =
     let long : length c.case_row-rows.result ≡ 24 = search rules in
     let eight : length c.renumber-cell.result ≡ 8 = search rules in (
       omega (arith, c.case_count-count.ensures.1),
-      omega (arith, (row).1, length-simplexes 4 (hex_cut c.args.ids.now), c.requires),
+      omega (arith, row.1, length-simplexes 4 (hex_cut c.args.ids.now), c.requires),
       rw (eight, c.case_row-rows.ensures) (case_within c.hex_case-case.result c.hex_case-case.ensures.1),
     )
 
@@ -39,8 +39,8 @@ returns c =
     let rows = c.case_row-rows.result in
     let out = c.args.out.now in
     record {
-      counted = (row).1;
+      counted = row.1;
       written = c.put.ensures
           ∙ ap (λ (cell : List ℕ). overwrite (take (n * 4) (pick cell (undigit rows))) out) c.renumber-cell.ensures
-          ∙ ap (λ (xs : List ℕ). overwrite xs out) (picked (hex_cut c.args.ids.now) rows n (row).0);
+          ∙ ap (λ (xs : List ℕ). overwrite xs out) (picked (hex_cut c.args.ids.now) rows n row.0);
     }

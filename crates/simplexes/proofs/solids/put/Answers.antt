@@ -4,7 +4,7 @@ use mathlib.Core.Path.{◌≡◌, ◌∙◌, ap}
 use mathlib.Core.List.{List}
 use Prim.Native.Nat.{ℕ, ◌+◌, ◌*◌, ◌≤◌}
 use native.Mathlib.Omega.{arith}
-use lib.ListN.{length, take, length-set}
+use lib.ListN.{length, take}
 use lib.Seq.{length-take-le}
 use Rattle.base.specs.Gather.{pick, undigit}
 use Rattle.base.proofs.Lists.{front_whole}
@@ -15,27 +15,6 @@ use Rattle.simplexes.proofs.solids.put.Goals as goal
 
 whole_long : (fours : ℕ) (ids string : List ℕ) → fours * 4 ≤ length string → length (whole fours ids string) ≡ fours * 4
 whole_long fours ids string h = length-take-le (fours * 4) (pick ids (undigit string)) (rw (length-undigit ids string) h)
-
-pub put_one-requires : goal.put_one-requires
-put_one-requires c = (omega arith, omega arith, c.requires.2)
-
-pub put_one-requires-in-loop-i : goal.put_one-requires-in-loop-i
-put_one-requires-in-loop-i c = (omega arith, omega (arith, simp length-set at (ap length c.put_one.ensures)), c.requires.2)
-
-pub put_one-requires-in-loop-i-2 : goal.put_one-requires-in-loop-i-2
-put_one-requires-in-loop-i-2 c = (omega arith, omega (arith, simp length-set at (ap length c.put_one.ensures), simp length-set at (ap length c.put_one-in-loop-i.ensures)), c.requires.2)
-
-pub put_one-requires-in-loop-i-3 : goal.put_one-requires-in-loop-i-3
-put_one-requires-in-loop-i-3 c = (
-  omega arith,
-  omega (
-    arith,
-    simp length-set at (ap length c.put_one.ensures),
-    simp length-set at (ap length c.put_one-in-loop-i.ensures),
-    simp length-set at (ap length c.put_one-in-loop-i-2.ensures),
-  ),
-  c.requires.2,
-)
 
 pub loop-i-preserved : goal.loop-i-preserved
 loop-i-preserved c =

@@ -7,21 +7,6 @@ use Rattle.base.specs.Kinds.{separator}
 use Rattle.base.proofs.Picks.{undigit_at, within_default}
 use Rattle.simplexes.proofs.solids.put_one.Goals as goal
 
-pub corner_of-corner-requires : goal.corner_of-corner-requires
-corner_of-corner-requires c = (c.requires.2 c.args.at c.requires.0).0
-
-pub offset_bounds-ids-corner : goal.offset_bounds-ids-corner
-offset_bounds-ids-corner c =
-    let read : c.corner_of-corner.result < length c.args.ids.now = let w = c.requires.2 c.args.at c.requires.0 in
-    omega (arith, w.0, w.1, c.corner_of-corner.ensures) in
-    omega (arith, read)
-
-pub bounds-ids-corner : goal.bounds-ids-corner
-bounds-ids-corner c =
-    let read : c.corner_of-corner.result < length c.args.ids.now = let w = c.requires.2 c.args.at c.requires.0 in
-    omega (arith, w.0, w.1, c.corner_of-corner.ensures) in
-    read
-
 pub returns : goal.returns
 returns c =
     let a = c.args in

@@ -8,9 +8,6 @@ use Rattle.cuts.specs.Smallest.{first_diagonal}
 use Rattle.simplexes.proofs.Laws.{four_are, put_fills}
 use Rattle.simplexes.proofs.solids.quad_first.Goals as goal
 
-pub put-requires : goal.put-requires
-put-requires c = (search rules, search rules, c.requires)
-
 pub returns : goal.returns
 returns c =
     let a = c.args in

@@ -5,9 +5,6 @@ use lib.ListN.{length}
 use Rattle.simplexes.proofs.Laws.{put_fills}
 use Rattle.simplexes.proofs.solids.renumber.Goals as goal
 
-pub put-requires : goal.put-requires
-put-requires c = (search rules, search rules, c.requires)
-
 pub returns : goal.returns
 returns c =
     let a = c.args in

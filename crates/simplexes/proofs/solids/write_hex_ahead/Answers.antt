@@ -20,19 +20,12 @@ offset_bounds-table-row c =
     record { fits = omega (arith, few) }
 
 pub bounds-table-row : goal.bounds-table-row
-bounds-table-row c =
-    let few : c.args.row < 64 = rw c.requires.table_value.2 (place_few c.args.ids.now) in
-    few
+bounds-table-row c = rw c.requires.table_value.2 (place_few c.args.ids.now)
 
 pub put-requires : goal.put-requires
 put-requires c =
     let few : c.args.row < 64 = rw c.requires.table_value.2 (place_few c.args.ids.now) in
-    (omega arith, omega (arith, c.requires.in_bounds), rw (c.requires.table_value.0, c.requires.table_value.1) (hex_within c.args.row (few)))
-
-pub row_count-requires : goal.row_count-requires
-row_count-requires c =
-    let few : c.args.row < 64 = rw c.requires.table_value.2 (place_few c.args.ids.now) in
-    few
+    (omega arith, omega (arith, c.requires.in_bounds), rw (c.requires.table_value.0, c.requires.table_value.1) (hex_within c.args.row few))
 
 pub returns : goal.returns
 returns c =

@@ -18,9 +18,7 @@ offset_bounds-table-row c =
     omega (arith, few)
 
 pub bounds-table-row : goal.bounds-table-row
-bounds-table-row c =
-    let few : c.args.row < 12 = rw c.requires.table_value.2 (wedge-place_few c.args.ids.now) in
-    few
+bounds-table-row c = rw c.requires.table_value.2 (wedge-place_few c.args.ids.now)
 
 pub put-requires : goal.put-requires
 put-requires c =
@@ -28,7 +26,7 @@ put-requires c =
     let ids = c.args.ids.now in (
       search rules,
       omega (arith, three_rows ids, length-simplexes 4 (wedge_cut ids), c.requires.ids_in_bounds),
-      rw (c.requires.table_value.0, c.requires.table_value.1) (wedge_within c.args.row (few)),
+      rw (c.requires.table_value.0, c.requires.table_value.1) (wedge_within c.args.row few),
     )
 
 pub returns : goal.returns
