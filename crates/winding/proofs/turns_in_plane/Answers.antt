@@ -1,5 +1,5 @@
 -- `turns_in_plane` meets its contract: in the plane there is an arm for each of the three kinds.
-use Rattle.std.proofs.Common.{ne_eqb}
+use Rattle.std.proofs.Common.{◌≡◌, arith, ne_eqb}
 use Rattle.winding.specs.Reorient.{turns_in_plane}
 use Rattle.winding.proofs.turns_in_plane.Goals as goal
 
@@ -22,5 +22,8 @@ returns-in-18 c = rw (c.if-dimension-ne-IN_PLANE.false, c.in-18.is)
 pub returns-in_default : goal.returns-in_default
 unfolding turns_in_plane
 returns-in_default c =
-    let r = c.in_default.in_default-own.rest in
-    simp (c.if-dimension-ne-IN_PLANE.false, ne_eqb _ 5 r.0.0.1, ne_eqb _ 8 r.0.1, ne_eqb _ 18 r.1)
+    let k = c.args.kind in
+    let tri : k ≡ 5 → ⊥ = λ e. omega arith in
+    let quad : k ≡ 8 → ⊥ = λ e. omega arith in
+    let pgon : k ≡ 18 → ⊥ = λ e. omega arith in
+    simp (c.if-dimension-ne-IN_PLANE.false, ne_eqb k 5 tri, ne_eqb k 8 quad, ne_eqb k 18 pgon)

@@ -1,6 +1,6 @@
 -- `plane::signed_area2` meets its contract: the edge from place i - 1 is the next, `from` is the point that it starts in,
 -- and the sum so far, over the edges from there on, gives the whole cycle's.
-use Rattle.std.proofs.Common.{refl, ap, add-sub_cancel, arith}
+use Rattle.std.proofs.Common.{ap, add-sub_cancel, arith}
 use lib.Ieee.{Float, binary64, div, of_bits}
 use Rattle.faces.specs.Edges.{along}
 use Rattle.winding.specs.Plane.{two64, area_from, signed_area2}
@@ -11,16 +11,6 @@ use Rattle.winding.proofs.plane.signed_area2.Goals as goal
 pub returns-then-ids-eq0 : goal.returns-then-ids-eq0
 unfolding of_bits area_from signed_area2 along div
 returns-then-ids-eq0 c = rw (empty c.args.ids.now c.if-ids-eq0.true)
-
-pub point_at-first-requires : goal.point_at-first-requires
-point_at-first-requires c = c.requires 0 (omega arith)
-
-pub loop-i-init : goal.loop-i-init
-unfolding of_bits
-loop-i-init c = (omega arith, omega arith, c.point_at-first.ensures, refl)
-
-pub point_at-to-requires : goal.point_at-to-requires
-point_at-to-requires c = c.requires c.loop-i.i c.loop-i-test.true
 
 pub loop-i-preserved : goal.loop-i-preserved
 unfolding area_from

@@ -1,16 +1,7 @@
 -- `space::face_plane` meets its contract: the normal so far, over the edges that are left, gives the whole cycle's.
-use Rattle.std.proofs.Common.{refl}
-use lib.Ieee.{of_bits}
 use Rattle.winding.specs.Space.{normal_from, normal_of}
 use Rattle.winding.proofs.Round.{along_step, along_end, follower_placed}
 use Rattle.winding.proofs.space.face_plane.Goals as goal
-
-pub loop-i-init : goal.loop-i-init
-unfolding of_bits
-loop-i-init c = refl
-
-pub point_at-from-requires : goal.point_at-from-requires
-point_at-from-requires c = c.requires c.loop-i.i c.loop-i-test.true
 
 pub point_at-to-requires : goal.point_at-to-requires
 point_at-to-requires c = rw c.next_node.ensures (follower_placed c.args.face.now c.loop-i.i _ c.requires c.loop-i-test.true)

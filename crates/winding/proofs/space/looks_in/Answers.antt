@@ -6,9 +6,6 @@ use Rattle.winding.specs.declared.point.Vector.{Vector}
 use Rattle.winding.specs.declared.point.Point.{Point}
 use Rattle.winding.proofs.space.looks_in.Goals as goal
 
-pub point_at-first-requires : goal.point_at-first-requires
-point_at-first-requires c = c.requires.placed 0 c.requires.face_nonzero
-
 pub returns : goal.returns
 unfolding looks_in of_bits round
 returns c =

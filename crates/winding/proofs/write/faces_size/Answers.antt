@@ -1,14 +1,11 @@
 -- `write::faces_size` meets its contract: the entries so far and those of the faces that are left make the whole.
-use Rattle.std.proofs.Common.{◌≡◌, ℕ, ◌+◌, ◌-◌, cond, eqb, List, length, drop, sym, ap, ◌∙◌, zero-add, arith, length-append}
+use Rattle.std.proofs.Common.{◌≡◌, ℕ, ◌+◌, ◌-◌, cond, eqb, List, length, drop, sym, ap, ◌∙◌, arith, length-append}
 use Rattle.faces.specs.Faces.{faces}
 use Rattle.faces.specs.Inner.Walk.{part}
 use Rattle.faces.proofs.Walk.{Next, next, no_more}
 use Rattle.winding.specs.Inner.Scan.{piece}
 use Rattle.winding.proofs.Joined.{behind, behind_none, behind_lead, piece_size, piece-le, length_part}
 use Rattle.winding.proofs.write.faces_size.Goals as goal
-
-pub loop-i-init : goal.loop-i-init
-loop-i-init c = (omega arith, omega arith, zero-add _)
 
 pub overflow_sub-face : goal.overflow_sub-face
 overflow_sub-face c =

@@ -7,7 +7,7 @@ use Rattle.faces.proofs.Walk.{next}
 use Rattle.winding.specs.declared.point.Vector.{Vector}
 use Rattle.winding.proofs.Points.{placed_face}
 use Rattle.winding.proofs.Joined.{joined_length}
-use Rattle.winding.proofs.Written.{Whole, start, length_out, ends, fits, step}
+use Rattle.winding.proofs.Written.{Whole, ends, fits, step}
 use Rattle.winding.proofs.write.put_faces.Invariants.{turn, keeps}
 use Rattle.winding.proofs.write.put_faces.Goals as goal
 
@@ -15,9 +15,6 @@ use Rattle.winding.proofs.write.put_faces.Goals as goal
 room : (points : List Float) (reference : Vector) (ids out : List ℕ) → length (joined separator (faces ids)) ≤ length out
     → length (Whole (turn points reference) (keeps points reference) ids out) ≤ length out
 room points reference ids out h = omega (arith, joined_length (turn points reference) (keeps points reference) (faces ids))
-
-pub loop-i-init : goal.loop-i-init
-loop-i-init c = start _ _ _ _
 
 pub offset_bounds-ids-start : goal.offset_bounds-ids-start
 offset_bounds-ids-start c =
@@ -51,9 +48,6 @@ pub loop-i-preserved : goal.loop-i-preserved
 loop-i-preserved c =
     let n = next _ c.loop-i.i c.loop-i-test.true c.next_face-face.result c.next_face-face.ensures in
     rw c.put_face-at.ensures.1 (step _ _ _ _ _ _ _ c.loop-i.invariant _ n _ c.put_face-at.ensures.0)
-
-pub shape_of-out : goal.shape_of-out
-shape_of-out c = length_out _ _ _ _ _ _ _ c.loop-i.invariant (room _ _ _ _ c.requires.ids_in_bounds)
 
 pub returns : goal.returns
 returns c = ends _ _ _ _ _ _ _ c.loop-i.invariant c.loop-i-test.false
