@@ -47,13 +47,13 @@ unfolding nodes_of
 returns-then-n-room c =
     let brick : c.args.kind ≡ 15 = hex_left c.args.kind c.requires.0 c.if-kind-eq-TET4.false c.if-kind-eq-WEDGE6.false in
     let h : counts (cells 15 c.args.n c.args.ids.now) * 4 ≤ c.args.room = omega (arith, hex_counts c.args.n c.args.ids.now) in
-    rw (brick) (sym (le-leb _ _ h))
+    rw brick (sym (le-leb _ _ h))
 
 pub count_bricks-requires : goal.count_bricks-requires
 unfolding nodes_of
 count_bricks-requires c =
     let brick : c.args.kind ≡ 15 = hex_left c.args.kind c.requires.0 c.if-kind-eq-TET4.false c.if-kind-eq-WEDGE6.false in
-    (rw (brick) at c.requires.1, c.requires.2)
+    (rw brick at c.requires.1, c.requires.2)
 
 pub overflow_mul-result-2 : goal.overflow_mul-result-2
 unfolding nodes_of
@@ -65,4 +65,4 @@ pub returns : goal.returns
 unfolding nodes_of
 returns c =
     let brick : c.args.kind ≡ 15 = hex_left c.args.kind c.requires.0 c.if-kind-eq-TET4.false c.if-kind-eq-WEDGE6.false in
-    known c.args.kind c.args.n c.args.room c.args.ids.now 15 _ (brick) (ap (λ (k : ℕ). k * 4) c.count_bricks.ensures.0)
+    known c.args.kind c.args.n c.args.room c.args.ids.now 15 _ brick (ap (λ (k : ℕ). k * 4) c.count_bricks.ensures.0)

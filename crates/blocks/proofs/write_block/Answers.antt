@@ -36,32 +36,32 @@ pub overflow_mul-n : goal.overflow_mul-n
 unfolding nodes_of
 overflow_mul-n c =
     let is_tet : c.args.kind ≡ 11 = tet_left _ c.requires.kind_value.0 c.if-kind-eq-HEX8.false c.if-kind-eq-WEDGE6.false in
-    let whole : c.args.n * 4 ≤ length c.args.ids.now = rw (is_tet) at c.requires.kind_value.1 in
+    let whole : c.args.n * 4 ≤ length c.args.ids.now = rw is_tet at c.requires.kind_value.1 in
     record { fits = omega (arith, whole, c.requires.kind_value.2) }
 
 pub slice_bounds-copy-end : goal.slice_bounds-copy-end
 unfolding nodes_of
 slice_bounds-copy-end c =
     let is_tet : c.args.kind ≡ 11 = tet_left _ c.requires.kind_value.0 c.if-kind-eq-HEX8.false c.if-kind-eq-WEDGE6.false in
-    let whole : c.args.n * 4 ≤ length c.args.ids.now = rw (is_tet) at c.requires.kind_value.1 in
-    sym (length-take-le _ _ (whole))
+    let whole : c.args.n * 4 ≤ length c.args.ids.now = rw is_tet at c.requires.kind_value.1 in
+    sym (length-take-le _ _ whole)
 
 pub copy-requires : goal.copy-requires
 unfolding nodes_of
 copy-requires c =
     let is_tet : c.args.kind ≡ 11 = tet_left _ c.requires.kind_value.0 c.if-kind-eq-HEX8.false c.if-kind-eq-WEDGE6.false in
-    let whole : c.args.n * 4 ≤ length c.args.ids.now = rw (is_tet) at c.requires.kind_value.1 in
+    let whole : c.args.n * 4 ≤ length c.args.ids.now = rw is_tet at c.requires.kind_value.1 in
     let room : let a = c.args in
-    length (take (a.n * 4) a.ids.now) ≤ length a.out.now = rw (← tets_stay c.args.n c.args.ids.now (whole)) (rw (is_tet) at c.requires.ids_in_bounds) in
+    length (take (a.n * 4) a.ids.now) ≤ length a.out.now = rw (← tets_stay c.args.n c.args.ids.now whole) (rw is_tet at c.requires.ids_in_bounds) in
     room
 
 pub returns : goal.returns
 unfolding nodes_of
 returns c =
     let is_tet : c.args.kind ≡ 11 = tet_left _ c.requires.kind_value.0 c.if-kind-eq-HEX8.false c.if-kind-eq-WEDGE6.false in
-    let whole : c.args.n * 4 ≤ length c.args.ids.now = rw (is_tet) at c.requires.kind_value.1 in
-    rw (is_tet)
+    let whole : c.args.n * 4 ≤ length c.args.ids.now = rw is_tet at c.requires.kind_value.1 in
+    rw is_tet
     (record {
       counted = sym (tet-counts c.args.n c.args.ids.now);
-      written = rw (tets_stay c.args.n c.args.ids.now (whole)) c.copy.ensures;
+      written = rw (tets_stay c.args.n c.args.ids.now whole) c.copy.ensures;
     })

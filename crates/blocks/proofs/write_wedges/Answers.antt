@@ -64,7 +64,7 @@ loop-i-preserved c =
     let fits : let a = c.args in
     length (splits (cells 13 (c.loop-i.i + 1) a.ids.now)) ≤ length a.out.now = next_fits 13 c.args.ids.now c.loop-i.i c.args.n _ c.loop-i.invariant.0 c.requires.ids_in_bounds in
     let w = wrote c.args.ids.now c.args.out.now c.loop-i.out _ c.loop-i.i c.loop-i.at c.loop-i.invariant.1 c.loop-i.invariant.3 c.write_wedge.ensures in
-    (omega arith, omega (arith, c.loop-i.invariant.1), ap length w ∙ length-overwrite _ _ (fits), w, c.wedge_row_at-next_row.ensures)
+    (omega arith, omega (arith, c.loop-i.invariant.1), ap length w ∙ length-overwrite _ _ fits, w, c.wedge_row_at-next_row.ensures)
 
 pub write_wedge-requires-2 : goal.write_wedge-requires-2
 unfolding nodes_of
@@ -82,7 +82,7 @@ shape_of-out c =
     c.write_wedge-2.new.out ≡ overwrite (splits (cells 13 a.n a.ids.now)) a.out.now = let a = c.args in
     let last : c.loop-i.i + 1 ≡ a.n = omega (arith, c.loop-i.invariant.0) in
     wrote c.args.ids.now c.args.out.now c.loop-i.out _ c.loop-i.i c.loop-i.at c.loop-i.invariant.1 c.loop-i.invariant.3 c.write_wedge-2.ensures ∙ ap (λ (k : ℕ). overwrite (splits (cells 13 k a.ids.now)) a.out.now) last in
-    ap length (written) ∙ length-overwrite _ _ c.requires.ids_in_bounds
+    ap length written ∙ length-overwrite _ _ c.requires.ids_in_bounds
 
 -- behind the loop stands the last wedge
 pub returns : goal.returns

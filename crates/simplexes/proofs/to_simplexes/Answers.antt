@@ -19,7 +19,7 @@ unfolding to_simplexes split split_count
 returns-then-has_room c =
     let room : let a = c.args in
     length (split a.kind a.ids.now) ≤ length a.out.now = leb-true _ _ (sym c.has_room.ensures ∙ c.if-has_room.true) in
-    rw (settle_gives _ _ _ _ _ (sym c.split_refusal-refusal.ensures ∙ c.if-refusal-ne0.false) (room))
+    rw (settle_gives _ _ _ _ _ (sym c.split_refusal-refusal.ensures ∙ c.if-refusal-ne0.false) room)
     (record {
       answered = c.given.ensures ∙ ap₂ given c.simplex_kind.ensures c.write_cell-count.ensures.counted;
       left = c.write_cell-count.ensures.written;
@@ -30,5 +30,5 @@ unfolding to_simplexes
 returns c =
     let no_room : let a = c.args in
     length a.out.now < length (split a.kind a.ids.now) = leb-false _ _ (sym c.has_room.ensures ∙ c.if-has_room.false) in
-    rw (settle_short _ _ _ _ _ (sym c.split_refusal-refusal.ensures ∙ c.if-refusal-ne0.false) (no_room))
+    rw (settle_short _ _ _ _ _ (sym c.split_refusal-refusal.ensures ∙ c.if-refusal-ne0.false) no_room)
     (record { answered = c.refused-2.ensures; left = refl })

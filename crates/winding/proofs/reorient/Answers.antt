@@ -17,7 +17,7 @@ returns-then-out-size c =
     let size : c.answer_size-size.result
     ≡ length (reoriented c.args.kind c.args.ids.now c.args.dimension c.args.points.now) = c.answer_size-size.ensures
     ∙ sym (answer_length c.args.kind c.args.ids.now c.args.dimension c.args.points.now) in
-    rw (settle_short _ _ _ _ _ (passed) (rw (size) at c.if-out-size.true))
+    rw (settle_short _ _ _ _ _ passed (rw size at c.if-out-size.true))
     (record { answered = c.refused-then-out-size.ensures; left = refl })
 
 pub wind-requires : goal.wind-requires
@@ -26,7 +26,7 @@ wind-requires c =
     let size : c.answer_size-size.result
     ≡ length (reoriented c.args.kind c.args.ids.now c.args.dimension c.args.points.now) = c.answer_size-size.ensures
     ∙ sym (answer_length c.args.kind c.args.ids.now c.args.dimension c.args.points.now) in
-    record { points_value = passed; points_in_bounds = rw (size) at c.if-out-size.false }
+    record { points_value = passed; points_in_bounds = rw size at c.if-out-size.false }
 
 pub returns : goal.returns
 returns c =
@@ -34,5 +34,5 @@ returns c =
     let size : c.answer_size-size.result
     ≡ length (reoriented c.args.kind c.args.ids.now c.args.dimension c.args.points.now) = c.answer_size-size.ensures
     ∙ sym (answer_length c.args.kind c.args.ids.now c.args.dimension c.args.points.now) in
-    rw (settle_gives _ _ _ _ _ (passed) (rw (size) at c.if-out-size.false))
-    (record { answered = c.given.ensures ∙ ap (given c.args.kind) (size); left = c.wind.ensures })
+    rw (settle_gives _ _ _ _ _ passed (rw size at c.if-out-size.false))
+    (record { answered = c.given.ensures ∙ ap (given c.args.kind) size; left = c.wind.ensures })

@@ -14,7 +14,7 @@ unfolding answer_size
 put_faces-requires c =
     let size : answer_size c.args.kind c.args.ids.now c.args.dimension ≤ length c.args.out.now = omega (arith, c.requires.points_in_bounds, answer_length c.args.kind c.args.ids.now c.args.dimension c.args.points.now) in
     let k = sym c.turns_in_space.ensures ∙ c.if-turns_in_space.true in
-    record { ids_value = placed_in_space _ _ _ _ c.requires.points_value k; ids_in_bounds = simp k at (size) }
+    record { ids_value = placed_in_space _ _ _ _ c.requires.points_value k; ids_in_bounds = simp k at size }
 
 pub returns-then-turns_in_space : goal.returns-then-turns_in_space
 unfolding wound_in_space
@@ -32,7 +32,7 @@ unfolding answer_size
 put_run-requires c =
     let size : answer_size c.args.kind c.args.ids.now c.args.dimension ≤ length c.args.out.now = omega (arith, c.requires.points_in_bounds, answer_length c.args.kind c.args.ids.now c.args.dimension c.args.points.now) in
     let k = sym c.turns_in_space.ensures ∙ c.if-turns_in_space.false in
-    omega (arith, simp k at (size))
+    omega (arith, simp k at size)
 
 pub returns-then-turns_in_plane : goal.returns-then-turns_in_plane
 unfolding wound_in_plane
@@ -48,7 +48,7 @@ unfolding answer_size
 copy-requires c =
     let size : answer_size c.args.kind c.args.ids.now c.args.dimension ≤ length c.args.out.now = omega (arith, c.requires.points_in_bounds, answer_length c.args.kind c.args.ids.now c.args.dimension c.args.points.now) in
     let k = sym c.turns_in_space.ensures ∙ c.if-turns_in_space.false in
-    simp k at (size)
+    simp k at size
 
 pub returns : goal.returns
 returns c =

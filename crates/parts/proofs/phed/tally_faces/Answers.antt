@@ -13,7 +13,7 @@ pub returns-then-start-end : goal.returns-then-start-end
 unfolding flatten
 returns-then-start-end c =
     let ahead : Next c.args.ids.now c.loop-at.at c.next_face-face.result = next _ _ c.loop-at-test.true _ c.next_face-face.ensures in
-    let none = next_none _ _ _ (ahead) c.if-start-end.true in
+    let none = next_none _ _ _ ahead c.if-start-end.true in
     (omega (arith, ap length none), omega (arith, ap (λ (fs : List (List ℕ)). length (flatten fs)) none))
 
 pub overflow_add-faces : goal.overflow_add-faces
@@ -39,7 +39,7 @@ loop-at-smaller c =
 pub loop-at-preserved : goal.loop-at-preserved
 loop-at-preserved c =
     let ahead : Next c.args.ids.now c.loop-at.at c.next_face-face.result = next _ _ c.loop-at-test.true _ c.next_face-face.ensures in
-    let found : Found c.args.ids.now c.loop-at.at c.next_face-face.result = next_found _ _ _ (ahead) c.if-start-end.false in
+    let found : Found c.args.ids.now c.loop-at.at c.next_face-face.result = next_found _ _ _ ahead c.if-start-end.false in
     let f = found in
     let n = ahead in
     let some : length (faces (drop c.loop-at.at c.args.ids.now))

@@ -22,8 +22,8 @@ write_phed-requires c =
     let ok : let a = c.args in
     poly_refusal a.kind a.ids.now ≡ 0 = sym c.poly_refusal-why.ensures ∙ c.if-why-ne0.false in
     let accepted : let a = c.args in
-    element_refusal a.kind a.ids.now ≡ 0 = (or_else_none _ _ (ok)).0 in
-    rw (nodes_are _ _ _ (accepted) c.if-kind-eq-TET4.true refl)
+    element_refusal a.kind a.ids.now ≡ 0 = (or_else_none _ _ ok).0 in
+    rw (nodes_are _ _ _ accepted c.if-kind-eq-TET4.true refl)
 
 pub returns-then-kind-eq-TET4 : goal.returns-then-kind-eq-TET4
 unfolding to_poly poly_ids poly_kind table_of nodes_of joined further
@@ -38,8 +38,8 @@ write_phed-requires-then-kind-eq-WEDGE6 c =
     let ok : let a = c.args in
     poly_refusal a.kind a.ids.now ≡ 0 = sym c.poly_refusal-why.ensures ∙ c.if-why-ne0.false in
     let accepted : let a = c.args in
-    element_refusal a.kind a.ids.now ≡ 0 = (or_else_none _ _ (ok)).0 in
-    rw (nodes_are _ _ _ (accepted) c.if-kind-eq-WEDGE6.true refl)
+    element_refusal a.kind a.ids.now ≡ 0 = (or_else_none _ _ ok).0 in
+    rw (nodes_are _ _ _ accepted c.if-kind-eq-WEDGE6.true refl)
 
 pub returns-then-kind-eq-WEDGE6 : goal.returns-then-kind-eq-WEDGE6
 unfolding to_poly poly_ids poly_kind table_of nodes_of joined further
@@ -54,8 +54,8 @@ write_phed-requires-then-kind-eq-HEX8 c =
     let ok : let a = c.args in
     poly_refusal a.kind a.ids.now ≡ 0 = sym c.poly_refusal-why.ensures ∙ c.if-why-ne0.false in
     let accepted : let a = c.args in
-    element_refusal a.kind a.ids.now ≡ 0 = (or_else_none _ _ (ok)).0 in
-    rw (nodes_are _ _ _ (accepted) c.if-kind-eq-HEX8.true refl)
+    element_refusal a.kind a.ids.now ≡ 0 = (or_else_none _ _ ok).0 in
+    rw (nodes_are _ _ _ accepted c.if-kind-eq-HEX8.true refl)
 
 pub returns-then-kind-eq-HEX8 : goal.returns-then-kind-eq-HEX8
 unfolding to_poly poly_ids poly_kind table_of nodes_of joined further

@@ -25,7 +25,7 @@ unfolding subentities_refusal
 pgon_sides-requires c =
     let ok : let a = c.args in
     subentities_refusal a.kind 1 a.ids.now ≡ 0 = sym c.boundary_refusal-why.ensures ∙ c.if-why-ne0.false in
-    (element_accepted _ _ (or_else_none _ _ (ok)).0).few
+    (element_accepted _ _ (or_else_none _ _ ok).0).few
 
 pub returns-then-kind-eq-PGON : goal.returns-then-kind-eq-PGON
 unfolding subentities_outcome entities
@@ -45,7 +45,7 @@ unfolding subentities_refusal
 first_parts-requires c =
     let ok : let a = c.args in
     subentities_refusal a.kind 1 a.ids.now ≡ 0 = sym c.boundary_refusal-why.ensures ∙ c.if-why-ne0.false in
-    (or_else_none _ _ (ok)).0
+    (or_else_none _ _ ok).0
 
 pub returns : goal.returns
 unfolding subentities_outcome entities

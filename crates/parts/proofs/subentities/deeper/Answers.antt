@@ -21,7 +21,7 @@ returns-then-kind-eq-PGON c =
     let a = c.args in
     rw (
       ok,
-      no_phed a.kind a.codim a.ids.now c.requires (ok),
+      no_phed a.kind a.codim a.ids.now c.requires ok,
       eq-eqb a.kind 18 c.if-kind-eq-PGON.true,
       c.requires,
     )
@@ -32,7 +32,7 @@ unfolding subentities_refusal
 second_parts-requires c =
     let ok : let a = c.args in
     subentities_refusal a.kind a.codim a.ids.now ≡ 0 = sym c.subentities_refusal-why.ensures ∙ c.if-why-ne0.false in
-    (or_else_none _ _ (ok)).0
+    (or_else_none _ _ ok).0
 
 pub returns-then-codim-eq2 : goal.returns-then-codim-eq2
 unfolding out_only entities
@@ -42,7 +42,7 @@ returns-then-codim-eq2 c =
     let a = c.args in
     rw (
       ok,
-      no_phed a.kind a.codim a.ids.now c.requires (ok),
+      no_phed a.kind a.codim a.ids.now c.requires ok,
       ne_eqb a.kind 18 c.if-kind-eq-PGON.false,
       c.if-codim-eq2.true,
     )
@@ -53,7 +53,7 @@ unfolding subentities_refusal
 third_parts-requires c =
     let ok : let a = c.args in
     subentities_refusal a.kind a.codim a.ids.now ≡ 0 = sym c.subentities_refusal-why.ensures ∙ c.if-why-ne0.false in
-    (or_else_none _ _ (ok)).0
+    (or_else_none _ _ ok).0
 
 pub returns : goal.returns
 unfolding out_only entities
@@ -63,8 +63,8 @@ returns c =
     let a = c.args in
     rw (
       ok,
-      no_phed a.kind a.codim a.ids.now c.requires (ok),
+      no_phed a.kind a.codim a.ids.now c.requires ok,
       ne_eqb a.kind 18 c.if-kind-eq-PGON.false,
-      last a.kind a.codim a.ids.now c.requires (ok) c.if-codim-eq2.false,
+      last a.kind a.codim a.ids.now c.requires ok c.if-codim-eq2.false,
     )
     c.third_parts.ensures

@@ -19,14 +19,14 @@ pub loop-at-preserved : goal.loop-at-preserved
 loop-at-preserved c =
     let walk : Next c.args.ids.now c.loop-at.at c.next_face-face.result = next _ _ c.loop-at-test.true _ c.next_face-face.ensures in (
       omega (arith, walk),
-      sym (rw c.if-size-a.true at (other_step _ _ _ (walk) c.args.a
+      sym (rw c.if-size-a.true at (other_step _ _ _ walk c.args.a
           c.args.b)) ∙ c.loop-at.invariant.1,
     )
 
 pub returns-else-size-a : goal.returns-else-size-a
 returns-else-size-a c =
     let walk : Next c.args.ids.now c.loop-at.at c.next_face-face.result = next _ _ c.loop-at-test.true _ c.next_face-face.ensures in
-    sym (rw c.if-size-a.false at (other_step _ _ _ (walk) c.args.a
+    sym (rw c.if-size-a.false at (other_step _ _ _ walk c.args.a
     c.args.b)) ∙ c.loop-at.invariant.1
 
 pub returns : goal.returns

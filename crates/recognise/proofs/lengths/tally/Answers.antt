@@ -19,7 +19,7 @@ pub loop-at-preserved : goal.loop-at-preserved
 loop-at-preserved c =
     let walk : Next c.args.ids.now c.loop-at.at c.next_face-face.result = next _ _ c.loop-at-test.true _ c.next_face-face.ensures in
     omega
-    (arith, walk, tally_step _ _ _ (walk) c.args.n (search rules))
+    (arith, walk, tally_step _ _ _ walk c.args.n (search rules))
 
 pub returns : goal.returns
 returns c =

@@ -40,8 +40,8 @@ unfolding mixed
 returns c =
     let tris : length (nodes_in 3 (faces c.args.ids.now)) ≡ 6 = length_nodes 3 _ ∙ rw (← c.tally.ensures, c.if-tally-ne2.false) in
     let quads : length (nodes_in 4 (faces c.args.ids.now)) ≡ 12 = length_nodes 4 _ ∙ rw (← c.tally-2.ensures, c.if-tally-ne3.false) in
-    let a = c.nodes_in.ensures ∙ overwrite_whole _ _ (tris) in
-    let b = c.nodes_in-2.ensures ∙ overwrite_whole _ _ (quads) in
+    let a = c.nodes_in.ensures ∙ overwrite_whole _ _ tris in
+    let b = c.nodes_in-2.ensures ∙ overwrite_whole _ _ quads in
     holds_as c.wedge.ensures
     (rw (
       a,

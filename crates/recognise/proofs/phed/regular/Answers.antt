@@ -30,7 +30,7 @@ unfolding regular
 returns-then-tally-eq4 c =
     let tris : length (nodes_in 3 (faces c.args.ids.now)) ≡ 12 = length_nodes 3 _ ∙ rw (← c.tally.ensures, c.if-tally-eq4.true) in
     holds_as c.tet.ensures
-    (ap tet (c.nodes_in.ensures ∙ overwrite_whole _ _ (tris))
+    (ap tet (c.nodes_in.ensures ∙ overwrite_whole _ _ tris)
     ∙ rw (
       ← c.is_closed.ensures,
       c.if-not-is_closed.false,
@@ -48,7 +48,7 @@ unfolding regular
 returns-then-tally-eq6 c =
     let quads : length (nodes_in 4 (faces c.args.ids.now)) ≡ 24 = length_nodes 4 _ ∙ rw (← c.tally-2.ensures, c.if-tally-eq6.true) in
     holds_as c.brick.ensures
-    (ap brick (c.nodes_in-then-tally-eq6.ensures ∙ overwrite_whole _ _ (quads))
+    (ap brick (c.nodes_in-then-tally-eq6.ensures ∙ overwrite_whole _ _ quads)
     ∙ rw (
       ← c.is_closed.ensures,
       c.if-not-is_closed.false,

@@ -5,4 +5,4 @@ use Rattle.shapes.proofs.brick.home.Goals as goal
 
 pub returns : goal.returns
 unfolding home seek
-returns c = (cc)
+returns c = cc

@@ -5,4 +5,4 @@ use Rattle.shapes.proofs.brick.sides_at_edges.Goals as goal
 
 pub returns : goal.returns
 unfolding sides
-returns c = ((cc), search rules)
+returns c = (cc, search rules)

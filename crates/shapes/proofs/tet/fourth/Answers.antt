@@ -32,7 +32,7 @@ loop-m-preserved c =
     let turned : (ltb c.loop-m.m (length c.args.tris.now) ≡ true)
     × (c.in_triangle.result ≡ true) = and-true _ _ c.loop-m-test.true in
     let within : c.loop-m.m < length c.args.tris.now = ltb-true _ _ (turned).0 in
-    sym (fourth_on _ _ _ c.loop-m.m _ (within)
+    sym (fourth_on _ _ _ c.loop-m.m _ within
     (rw (← c.node.ensures, ← c.in_triangle.ensures) (turned).1)) ∙ c.loop-m.invariant
 
 pub returns : goal.returns

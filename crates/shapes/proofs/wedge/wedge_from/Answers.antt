@@ -3,4 +3,4 @@ use Rattle.shapes.proofs.Found.{holds_as}
 use Rattle.shapes.proofs.wedge.wedge_from.Goals as goal
 
 pub returns : goal.returns
-returns c = holds_as c.wedge6.ensures (cc)
+returns c = holds_as c.wedge6.ensures cc

@@ -26,7 +26,7 @@ returns-then-counts-edge_number-ne2 c =
     c.requires.3 c.edge_number.result e.1
     ∙ ap (λ (n : ℕ). met c.args.numbers.now c.args.next.now n
     (length c.args.next.now)) e.0 in
-    sym (twice_from _ _ c.loop-i.i _ false (search rules) (here) (ne_eqb _ 2 c.if-counts-edge_number-ne2.true)) ∙ c.loop-i.invariant.1
+    sym (twice_from _ _ c.loop-i.i _ false (search rules) here (ne_eqb _ 2 c.if-counts-edge_number-ne2.true)) ∙ c.loop-i.invariant.1
 
 pub loop-i-preserved : goal.loop-i-preserved
 loop-i-preserved c =
@@ -38,7 +38,7 @@ loop-i-preserved c =
     ∙ ap (λ (n : ℕ). met c.args.numbers.now c.args.next.now n
     (length c.args.next.now)) e.0 in (
       search rules,
-      sym (twice_from _ _ c.loop-i.i _ true (search rules) (here) (eq-eqb _ 2 c.if-counts-edge_number-ne2.false)) ∙ c.loop-i.invariant.1,
+      sym (twice_from _ _ c.loop-i.i _ true (search rules) here (eq-eqb _ 2 c.if-counts-edge_number-ne2.false)) ∙ c.loop-i.invariant.1,
     )
 
 pub returns : goal.returns

@@ -10,7 +10,7 @@ returns-then-has_none c =
     (c.has_none.result || lacks_point a.count (drop (c.loop-i.i + 1) a.ids.now)) ≡ lacks_point a.count a.ids.now = let ids = c.args.ids.now in
     let h : c.loop-i.i < length ids = search rules in
     rw (add-one, c.has_none.ensures) (rw (drop-cons ids c.loop-i.i 0) at c.loop-i.invariant) in
-    rw c.if-has_none.true at (decides)
+    rw c.if-has_none.true at decides
 
 pub loop-i-preserved : goal.loop-i-preserved
 unfolding lacks_point
@@ -19,7 +19,7 @@ loop-i-preserved c =
     (c.has_none.result || lacks_point a.count (drop (c.loop-i.i + 1) a.ids.now)) ≡ lacks_point a.count a.ids.now = let ids = c.args.ids.now in
     let h : c.loop-i.i < length ids = search rules in
     rw (add-one, c.has_none.ensures) (rw (drop-cons ids c.loop-i.i 0) at c.loop-i.invariant) in
-    rw c.if-has_none.false at (decides)
+    rw c.if-has_none.false at decides
 
 pub returns : goal.returns
 unfolding lacks_point

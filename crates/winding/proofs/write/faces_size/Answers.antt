@@ -9,23 +9,23 @@ use Rattle.winding.proofs.write.faces_size.Goals as goal
 
 pub overflow_sub-face : goal.overflow_sub-face
 overflow_sub-face c =
-    let found : Next ((c.args.ids.now)) c.loop-i.i c.next_face-face.result = next ((c.args.ids.now)) c.loop-i.i c.loop-i-test.true c.next_face-face.result c.next_face-face.ensures in
+    let found : Next c.args.ids.now c.loop-i.i c.next_face-face.result = next c.args.ids.now c.loop-i.i c.loop-i-test.true c.next_face-face.result c.next_face-face.ensures in
     (found).run
 
 pub grown-size-requires : goal.grown-size-requires
 grown-size-requires c =
-    let found : Next ((c.args.ids.now)) c.loop-i.i c.next_face-face.result = next ((c.args.ids.now)) c.loop-i.i c.loop-i-test.true c.next_face-face.result c.next_face-face.ensures in
+    let found : Next c.args.ids.now c.loop-i.i c.next_face-face.result = next c.args.ids.now c.loop-i.i c.loop-i-test.true c.next_face-face.result c.next_face-face.ensures in
     let n = found in omega arith
 
 pub loop-i-smaller : goal.loop-i-smaller
 loop-i-smaller c =
-    let found : Next ((c.args.ids.now)) c.loop-i.i c.next_face-face.result = next ((c.args.ids.now)) c.loop-i.i c.loop-i-test.true c.next_face-face.result c.next_face-face.ensures in
+    let found : Next c.args.ids.now c.loop-i.i c.next_face-face.result = next c.args.ids.now c.loop-i.i c.loop-i-test.true c.next_face-face.result c.next_face-face.ensures in
     let n = found in omega arith
 
 pub loop-i-preserved : goal.loop-i-preserved
 loop-i-preserved c =
-    let found : Next ((c.args.ids.now)) c.loop-i.i c.next_face-face.result = next ((c.args.ids.now)) c.loop-i.i c.loop-i-test.true c.next_face-face.result c.next_face-face.ensures in
-    let ids = (c.args.ids.now) in
+    let found : Next c.args.ids.now c.loop-i.i c.next_face-face.result = next c.args.ids.now c.loop-i.i c.loop-i-test.true c.next_face-face.result c.next_face-face.ensures in
+    let ids = c.args.ids.now in
     let size = c.loop-i.size in
     let f = c.next_face-face.result in
     let n = found in
