@@ -113,7 +113,7 @@ def renamings():
 
 
 def falls_together(new, places):
-    """Pairs of names that one spelling would join, and new names that a source, a library import or a binder has already."""
+    """Names that one spelling would join, and new names that another definition has already."""
     said = []
     kept = {n for n in places if n not in new}
     back = {}
