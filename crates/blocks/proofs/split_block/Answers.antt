@@ -1,7 +1,9 @@
 -- `split_block` meets its contract: once nothing refuses and there is room, the cells' own answers are written.
 use borrow.Author.Tests.{leb-true, leb-false}
 use mathlib.Core.Path.{◌≡◌, refl, sym, ◌∙◌, ap}
-use Prim.Native.Nat.{◌*◌, ◌≤◌, ◌<◌}
+use mathlib.Core.Bool.{Bool, true, false}
+use mathlib.Core.List.{List}
+use Prim.Native.Nat.{ℕ, ◌*◌, ◌≤◌, ◌<◌}
 use native.Mathlib.Omega.{arith}
 use lib.Dec.{leb}
 use lib.ListN.{length}
@@ -9,8 +11,21 @@ use Rattle.base.specs.Outcome.{refused, given}
 use Rattle.base.proofs.Settle.{settle_refuses, settle_short, settle_gives}
 use Rattle.cuts.specs.Demand3.{splits}
 use Rattle.blocks.specs.Blocks.{cells_of, counts, split_block, split_block_refusal}
-use Rattle.blocks.proofs.Parts.{Taken, taken, solid_is, four_each}
+use Rattle.blocks.proofs.Parts.{taken, solid_is, four_each}
 use Rattle.blocks.proofs.split_block.Goals as goal
+
+-- a block that nothing refuses, and a verdict on whether its tetrahedra, four ids each, fit into so much room
+module _ (kind : ℕ) (ids : List ℕ) (accepted : split_block_refusal kind ids ≡ 0) where
+  long : length (splits (cells_of kind ids)) ≡ counts (cells_of kind ids) * 4
+  long = four_each kind (solid_is kind (taken kind ids accepted).fills).tets _ ids
+
+  fits : (room : ℕ) (verdict : Bool) → verdict ≡ leb (counts (cells_of kind ids) * 4) room → verdict ≡ true
+      → length (splits (cells_of kind ids)) ≤ room
+  fits room verdict v h = rw long (leb-true _ _ (sym v ∙ h))
+
+  short : (room : ℕ) (verdict : Bool) → verdict ≡ leb (counts (cells_of kind ids) * 4) room → verdict ≡ false
+      → room < length (splits (cells_of kind ids))
+  short room verdict v h = rw long (leb-false _ _ (sym v ∙ h))
 
 pub returns-then-refusal-ne0 : goal.returns-then-refusal-ne0
 unfolding split_block
@@ -20,46 +35,37 @@ returns-then-refusal-ne0 c =
 
 pub nonzero_div-n : goal.nonzero_div-n
 nonzero_div-n c =
-    let accepted : split_block_refusal c.args.kind c.args.ids.now ≡ 0 = sym c.split_block_refusal-refusal.ensures ∙ c.if-refusal-ne0.false in
-    let block : Taken c.args.kind c.args.ids.now = taken _ _ accepted in
-    omega (arith, c.node_count-nodes.ensures, (solid_is c.args.kind (block).fills).least)
+    let block = taken c.args.kind c.args.ids.now (sym c.split_block_refusal-refusal.ensures ∙ c.if-refusal-ne0.false) in
+    omega (arith, c.node_count-nodes.ensures, (solid_is c.args.kind block.fills).least)
 
 pub has_room-requires : goal.has_room-requires
 has_room-requires c =
-    let accepted : split_block_refusal c.args.kind c.args.ids.now ≡ 0 = sym c.split_block_refusal-refusal.ensures ∙ c.if-refusal-ne0.false in
-    let block : Taken c.args.kind c.args.ids.now = taken _ _ accepted in
-    rw c.node_count-nodes.ensures ((block).fills, (block).left, (block).few)
+    let block = taken c.args.kind c.args.ids.now (sym c.split_block_refusal-refusal.ensures ∙ c.if-refusal-ne0.false) in
+    rw c.node_count-nodes.ensures (block.fills, block.left, block.few)
 
 pub write_block-count-requires : goal.write_block-count-requires
 write_block-count-requires c =
-    let accepted : split_block_refusal c.args.kind c.args.ids.now ≡ 0 = sym c.split_block_refusal-refusal.ensures ∙ c.if-refusal-ne0.false in
-    let block : Taken c.args.kind c.args.ids.now = taken _ _ accepted in
-    let long : length (splits (cells_of c.args.kind c.args.ids.now)) ≡ counts (cells_of c.args.kind c.args.ids.now) * 4 = four_each c.args.kind (solid_is c.args.kind (block).fills).tets _ c.args.ids.now in
-    let room : c.has_room.result ≡ leb (counts (cells_of c.args.kind c.args.ids.now) * 4) (length c.args.out.now) = rw c.node_count-nodes.ensures at c.has_room.ensures in
-    let fits : length (splits (cells_of c.args.kind c.args.ids.now)) ≤ length c.args.out.now = rw long (leb-true _ _ (sym room ∙ c.if-has_room.true)) in
-    rw c.node_count-nodes.ensures record { kind_value = ((block).fills, (block).left, (block).few); ids_in_bounds = fits }
+    let accepted = sym c.split_block_refusal-refusal.ensures ∙ c.if-refusal-ne0.false in
+    let block = taken c.args.kind c.args.ids.now accepted in
+    let verdict = rw c.node_count-nodes.ensures at c.has_room.ensures in
+    rw c.node_count-nodes.ensures record {
+      kind_value = (block.fills, block.left, block.few);
+      ids_in_bounds = fits c.args.kind c.args.ids.now accepted _ _ verdict c.if-has_room.true;
+    }
 
 pub returns-then-has_room : goal.returns-then-has_room
 unfolding split_block
 returns-then-has_room c =
-    let accepted : split_block_refusal c.args.kind c.args.ids.now ≡ 0 = sym c.split_block_refusal-refusal.ensures ∙ c.if-refusal-ne0.false in
-    let block : Taken c.args.kind c.args.ids.now = taken _ _ accepted in
-    let long : length (splits (cells_of c.args.kind c.args.ids.now)) ≡ counts (cells_of c.args.kind c.args.ids.now) * 4 = four_each c.args.kind (solid_is c.args.kind (block).fills).tets _ c.args.ids.now in
-    let room : c.has_room.result ≡ leb (counts (cells_of c.args.kind c.args.ids.now) * 4) (length c.args.out.now) = rw c.node_count-nodes.ensures at c.has_room.ensures in
-    let fits : length (splits (cells_of c.args.kind c.args.ids.now)) ≤ length c.args.out.now = rw long (leb-true _ _ (sym room ∙ c.if-has_room.true)) in
+    let accepted = sym c.split_block_refusal-refusal.ensures ∙ c.if-refusal-ne0.false in
+    let verdict = rw c.node_count-nodes.ensures at c.has_room.ensures in
     let w = rw c.node_count-nodes.ensures at c.write_block-count.ensures in
-    rw (settle_gives _ _ _ _ _ accepted fits)
+    rw (settle_gives _ _ _ _ _ accepted (fits c.args.kind c.args.ids.now accepted _ _ verdict c.if-has_room.true))
     (record { answered = c.given.ensures ∙ ap (given 11) w.counted; left = w.written })
 
 pub returns : goal.returns
 unfolding split_block
 returns c =
-    let accepted : split_block_refusal c.args.kind c.args.ids.now ≡ 0 = sym c.split_block_refusal-refusal.ensures ∙ c.if-refusal-ne0.false in
-    let block : Taken c.args.kind c.args.ids.now = taken _ _ accepted in
-    let long : length (splits (cells_of c.args.kind c.args.ids.now)) ≡ counts (cells_of c.args.kind c.args.ids.now) * 4 = four_each c.args.kind (solid_is c.args.kind (block).fills).tets _ c.args.ids.now in
-    let room : c.has_room.result ≡ leb (counts (cells_of c.args.kind c.args.ids.now) * 4) (length c.args.out.now) = rw c.node_count-nodes.ensures at c.has_room.ensures in
-    let cs = cells_of c.args.kind c.args.ids.now in
-    let h : length c.args.out.now < length (splits cs) =
-    rw long (leb-false _ _ (sym room ∙ c.if-has_room.false)) in
-    rw (settle_short _ _ _ _ _ accepted h)
+    let accepted = sym c.split_block_refusal-refusal.ensures ∙ c.if-refusal-ne0.false in
+    let verdict = rw c.node_count-nodes.ensures at c.has_room.ensures in
+    rw (settle_short _ _ _ _ _ accepted (short c.args.kind c.args.ids.now accepted _ _ verdict c.if-has_room.false))
     (record { answered = c.refused-2.ensures; left = refl })

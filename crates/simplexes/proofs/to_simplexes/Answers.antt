@@ -17,8 +17,7 @@ returns-then-refusal-ne0 c =
 pub returns-then-has_room : goal.returns-then-has_room
 unfolding to_simplexes split split_count
 returns-then-has_room c =
-    let room : let a = c.args in
-    length (split a.kind a.ids.now) ≤ length a.out.now = leb-true _ _ (sym c.has_room.ensures ∙ c.if-has_room.true) in
+    let room : length (split c.args.kind c.args.ids.now) ≤ length c.args.out.now = leb-true _ _ (sym c.has_room.ensures ∙ c.if-has_room.true) in
     rw (settle_gives _ _ _ _ _ (sym c.split_refusal-refusal.ensures ∙ c.if-refusal-ne0.false) room)
     (record {
       answered = c.given.ensures ∙ ap₂ given c.simplex_kind.ensures c.write_cell-count.ensures.counted;
@@ -28,7 +27,6 @@ returns-then-has_room c =
 pub returns : goal.returns
 unfolding to_simplexes
 returns c =
-    let no_room : let a = c.args in
-    length a.out.now < length (split a.kind a.ids.now) = leb-false _ _ (sym c.has_room.ensures ∙ c.if-has_room.false) in
+    let no_room : length c.args.out.now < length (split c.args.kind c.args.ids.now) = leb-false _ _ (sym c.has_room.ensures ∙ c.if-has_room.false) in
     rw (settle_short _ _ _ _ _ (sym c.split_refusal-refusal.ensures ∙ c.if-refusal-ne0.false) no_room)
     (record { answered = c.refused-2.ensures; left = refl })

@@ -16,26 +16,22 @@ returns-then-digit-eq58 c =
 
 pub overflow_sub-result : goal.overflow_sub-result
 overflow_sub-result c =
-    let corner : let a = c.args in
-    (48 ≤ a.digit) × (a.digit - 48 < length a.ids.now) = fit-corner _ _ c.requires c.if-digit-eq58.false in
+    let corner : (48 ≤ c.args.digit) × (c.args.digit - 48 < length c.args.ids.now) = fit-corner _ _ c.requires c.if-digit-eq58.false in
     omega (arith, c.wide.ensures, (corner).0)
 
 pub offset_bounds-ids-wide : goal.offset_bounds-ids-wide
 offset_bounds-ids-wide c =
-    let corner : let a = c.args in
-    (48 ≤ a.digit) × (a.digit - 48 < length a.ids.now) = fit-corner _ _ c.requires c.if-digit-eq58.false in
+    let corner : (48 ≤ c.args.digit) × (c.args.digit - 48 < length c.args.ids.now) = fit-corner _ _ c.requires c.if-digit-eq58.false in
     omega (arith, c.wide.ensures, (corner).1)
 
 pub bounds-ids-wide : goal.bounds-ids-wide
 bounds-ids-wide c =
-    let corner : let a = c.args in
-    (48 ≤ a.digit) × (a.digit - 48 < length a.ids.now) = fit-corner _ _ c.requires c.if-digit-eq58.false in
+    let corner : (48 ≤ c.args.digit) × (c.args.digit - 48 < length c.args.ids.now) = fit-corner _ _ c.requires c.if-digit-eq58.false in
     omega (arith, c.wide.ensures, (corner).1)
 
 pub returns : goal.returns
 returns c =
-    let corner : let a = c.args in
-    (48 ≤ a.digit) × (a.digit - 48 < length a.ids.now) = fit-corner _ _ c.requires c.if-digit-eq58.false in
+    let corner : (48 ≤ c.args.digit) × (c.args.digit - 48 < length c.args.ids.now) = fit-corner _ _ c.requires c.if-digit-eq58.false in
     let a = c.args in
     ap (λ (d : ℕ). get_or a.ids.now (d - 48) 0) c.wide.ensures
     ∙ within_default a.ids.now (a.digit - 48) 0 separator (corner).1

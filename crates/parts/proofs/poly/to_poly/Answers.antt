@@ -1,8 +1,7 @@
 -- `poly::to_poly` meets its contract: the refusals first, then each cell by its row, the others copied.
 use borrow.Author.Tests.{ne_eqb}
-use mathlib.Core.Path.{◌≡◌, refl, sym, ◌∙◌}
+use mathlib.Core.Path.{refl, sym, ◌∙◌}
 use Rattle.base.specs.Kinds.{nodes_of}
-use Rattle.base.specs.Checks.{element_refusal}
 use Rattle.base.proofs.Settle.{settle_refuses, or_else_none}
 use Rattle.faces.specs.Faces.{further, joined}
 use Rattle.parts.specs.Tables.{table_of}
@@ -19,56 +18,43 @@ returns-then-why-ne0 c =
 pub write_phed-requires : goal.write_phed-requires
 unfolding nodes_of poly_refusal
 write_phed-requires c =
-    let ok : let a = c.args in
-    poly_refusal a.kind a.ids.now ≡ 0 = sym c.poly_refusal-why.ensures ∙ c.if-why-ne0.false in
-    let accepted : let a = c.args in
-    element_refusal a.kind a.ids.now ≡ 0 = (or_else_none _ _ ok).0 in
-    rw (nodes_are _ _ _ accepted c.if-kind-eq-TET4.true refl)
+    let ok = sym c.poly_refusal-why.ensures ∙ c.if-why-ne0.false in
+    rw (nodes_are _ _ _ (or_else_none _ _ ok).0 c.if-kind-eq-TET4.true refl)
 
 pub returns-then-kind-eq-TET4 : goal.returns-then-kind-eq-TET4
 unfolding to_poly poly_ids poly_kind table_of nodes_of joined further
 returns-then-kind-eq-TET4 c =
-    let ok : let a = c.args in
-    poly_refusal a.kind a.ids.now ≡ 0 = sym c.poly_refusal-why.ensures ∙ c.if-why-ne0.false in
+    let ok = sym c.poly_refusal-why.ensures ∙ c.if-why-ne0.false in
     rw (ok, c.if-kind-eq-TET4.true) c.write_phed.ensures
 
 pub write_phed-requires-then-kind-eq-WEDGE6 : goal.write_phed-requires-then-kind-eq-WEDGE6
 unfolding nodes_of poly_refusal
 write_phed-requires-then-kind-eq-WEDGE6 c =
-    let ok : let a = c.args in
-    poly_refusal a.kind a.ids.now ≡ 0 = sym c.poly_refusal-why.ensures ∙ c.if-why-ne0.false in
-    let accepted : let a = c.args in
-    element_refusal a.kind a.ids.now ≡ 0 = (or_else_none _ _ ok).0 in
-    rw (nodes_are _ _ _ accepted c.if-kind-eq-WEDGE6.true refl)
+    let ok = sym c.poly_refusal-why.ensures ∙ c.if-why-ne0.false in
+    rw (nodes_are _ _ _ (or_else_none _ _ ok).0 c.if-kind-eq-WEDGE6.true refl)
 
 pub returns-then-kind-eq-WEDGE6 : goal.returns-then-kind-eq-WEDGE6
 unfolding to_poly poly_ids poly_kind table_of nodes_of joined further
 returns-then-kind-eq-WEDGE6 c =
-    let ok : let a = c.args in
-    poly_refusal a.kind a.ids.now ≡ 0 = sym c.poly_refusal-why.ensures ∙ c.if-why-ne0.false in
+    let ok = sym c.poly_refusal-why.ensures ∙ c.if-why-ne0.false in
     rw (ok, c.if-kind-eq-WEDGE6.true) c.write_phed-then-kind-eq-WEDGE6.ensures
 
 pub write_phed-requires-then-kind-eq-HEX8 : goal.write_phed-requires-then-kind-eq-HEX8
 unfolding nodes_of poly_refusal
 write_phed-requires-then-kind-eq-HEX8 c =
-    let ok : let a = c.args in
-    poly_refusal a.kind a.ids.now ≡ 0 = sym c.poly_refusal-why.ensures ∙ c.if-why-ne0.false in
-    let accepted : let a = c.args in
-    element_refusal a.kind a.ids.now ≡ 0 = (or_else_none _ _ ok).0 in
-    rw (nodes_are _ _ _ accepted c.if-kind-eq-HEX8.true refl)
+    let ok = sym c.poly_refusal-why.ensures ∙ c.if-why-ne0.false in
+    rw (nodes_are _ _ _ (or_else_none _ _ ok).0 c.if-kind-eq-HEX8.true refl)
 
 pub returns-then-kind-eq-HEX8 : goal.returns-then-kind-eq-HEX8
 unfolding to_poly poly_ids poly_kind table_of nodes_of joined further
 returns-then-kind-eq-HEX8 c =
-    let ok : let a = c.args in
-    poly_refusal a.kind a.ids.now ≡ 0 = sym c.poly_refusal-why.ensures ∙ c.if-why-ne0.false in
+    let ok = sym c.poly_refusal-why.ensures ∙ c.if-why-ne0.false in
     rw (ok, c.if-kind-eq-HEX8.true) c.write_phed-then-kind-eq-HEX8.ensures
 
 pub returns : goal.returns
 unfolding to_poly poly_ids
 returns c =
-    let ok : let a = c.args in
-    poly_refusal a.kind a.ids.now ≡ 0 = sym c.poly_refusal-why.ensures ∙ c.if-why-ne0.false in
+    let ok = sym c.poly_refusal-why.ensures ∙ c.if-why-ne0.false in
     let a = c.args in
     rw (
       ok,

@@ -15,23 +15,20 @@ returns-then-why-ne0 c =
 pub returns-then-kind-eq-PHED : goal.returns-then-kind-eq-PHED
 unfolding subentities_outcome entities
 returns-then-kind-eq-PHED c =
-    let ok : let a = c.args in
-    subentities_refusal a.kind 1 a.ids.now ≡ 0 = sym c.boundary_refusal-why.ensures ∙ c.if-why-ne0.false in
+    let ok : subentities_refusal c.args.kind 1 c.args.ids.now ≡ 0 = sym c.boundary_refusal-why.ensures ∙ c.if-why-ne0.false in
     let a = c.args in
     rw (ok, eq-eqb a.kind 19 c.if-kind-eq-PHED.true) c.phed_parts.ensures
 
 pub pgon_sides-requires : goal.pgon_sides-requires
 unfolding subentities_refusal
 pgon_sides-requires c =
-    let ok : let a = c.args in
-    subentities_refusal a.kind 1 a.ids.now ≡ 0 = sym c.boundary_refusal-why.ensures ∙ c.if-why-ne0.false in
+    let ok : subentities_refusal c.args.kind 1 c.args.ids.now ≡ 0 = sym c.boundary_refusal-why.ensures ∙ c.if-why-ne0.false in
     (element_accepted _ _ (or_else_none _ _ ok).0).few
 
 pub returns-then-kind-eq-PGON : goal.returns-then-kind-eq-PGON
 unfolding subentities_outcome entities
 returns-then-kind-eq-PGON c =
-    let ok : let a = c.args in
-    subentities_refusal a.kind 1 a.ids.now ≡ 0 = sym c.boundary_refusal-why.ensures ∙ c.if-why-ne0.false in
+    let ok : subentities_refusal c.args.kind 1 c.args.ids.now ≡ 0 = sym c.boundary_refusal-why.ensures ∙ c.if-why-ne0.false in
     let a = c.args in
     rw (
       ok,
@@ -43,15 +40,13 @@ returns-then-kind-eq-PGON c =
 pub first_parts-requires : goal.first_parts-requires
 unfolding subentities_refusal
 first_parts-requires c =
-    let ok : let a = c.args in
-    subentities_refusal a.kind 1 a.ids.now ≡ 0 = sym c.boundary_refusal-why.ensures ∙ c.if-why-ne0.false in
+    let ok : subentities_refusal c.args.kind 1 c.args.ids.now ≡ 0 = sym c.boundary_refusal-why.ensures ∙ c.if-why-ne0.false in
     (or_else_none _ _ ok).0
 
 pub returns : goal.returns
 unfolding subentities_outcome entities
 returns c =
-    let ok : let a = c.args in
-    subentities_refusal a.kind 1 a.ids.now ≡ 0 = sym c.boundary_refusal-why.ensures ∙ c.if-why-ne0.false in
+    let ok : subentities_refusal c.args.kind 1 c.args.ids.now ≡ 0 = sym c.boundary_refusal-why.ensures ∙ c.if-why-ne0.false in
     let a = c.args in
     rw (
       ok,

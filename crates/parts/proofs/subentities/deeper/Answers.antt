@@ -16,8 +16,7 @@ returns-then-why-ne0 c =
 pub returns-then-kind-eq-PGON : goal.returns-then-kind-eq-PGON
 unfolding out_only entities
 returns-then-kind-eq-PGON c =
-    let ok : let a = c.args in
-    subentities_refusal a.kind a.codim a.ids.now ≡ 0 = sym c.subentities_refusal-why.ensures ∙ c.if-why-ne0.false in
+    let ok : subentities_refusal c.args.kind c.args.codim c.args.ids.now ≡ 0 = sym c.subentities_refusal-why.ensures ∙ c.if-why-ne0.false in
     let a = c.args in
     rw (
       ok,
@@ -30,15 +29,13 @@ returns-then-kind-eq-PGON c =
 pub second_parts-requires : goal.second_parts-requires
 unfolding subentities_refusal
 second_parts-requires c =
-    let ok : let a = c.args in
-    subentities_refusal a.kind a.codim a.ids.now ≡ 0 = sym c.subentities_refusal-why.ensures ∙ c.if-why-ne0.false in
+    let ok : subentities_refusal c.args.kind c.args.codim c.args.ids.now ≡ 0 = sym c.subentities_refusal-why.ensures ∙ c.if-why-ne0.false in
     (or_else_none _ _ ok).0
 
 pub returns-then-codim-eq2 : goal.returns-then-codim-eq2
 unfolding out_only entities
 returns-then-codim-eq2 c =
-    let ok : let a = c.args in
-    subentities_refusal a.kind a.codim a.ids.now ≡ 0 = sym c.subentities_refusal-why.ensures ∙ c.if-why-ne0.false in
+    let ok : subentities_refusal c.args.kind c.args.codim c.args.ids.now ≡ 0 = sym c.subentities_refusal-why.ensures ∙ c.if-why-ne0.false in
     let a = c.args in
     rw (
       ok,
@@ -51,15 +48,13 @@ returns-then-codim-eq2 c =
 pub third_parts-requires : goal.third_parts-requires
 unfolding subentities_refusal
 third_parts-requires c =
-    let ok : let a = c.args in
-    subentities_refusal a.kind a.codim a.ids.now ≡ 0 = sym c.subentities_refusal-why.ensures ∙ c.if-why-ne0.false in
+    let ok : subentities_refusal c.args.kind c.args.codim c.args.ids.now ≡ 0 = sym c.subentities_refusal-why.ensures ∙ c.if-why-ne0.false in
     (or_else_none _ _ ok).0
 
 pub returns : goal.returns
 unfolding out_only entities
 returns c =
-    let ok : let a = c.args in
-    subentities_refusal a.kind a.codim a.ids.now ≡ 0 = sym c.subentities_refusal-why.ensures ∙ c.if-why-ne0.false in
+    let ok : subentities_refusal c.args.kind c.args.codim c.args.ids.now ≡ 0 = sym c.subentities_refusal-why.ensures ∙ c.if-why-ne0.false in
     let a = c.args in
     rw (
       ok,

@@ -23,8 +23,7 @@ returns-then-count-gt-HEX21_NODES c =
 
 pub returns : goal.returns
 returns c =
-    let front : let bytes = c.args.bytes.now in
-    take (length bytes / 8) c.read_ids.new.out ≡ ids_in (length bytes / 8) bytes = let bytes = c.args.bytes.now in
+    let front : take (length c.args.bytes.now / 8) c.read_ids.new.out ≡ ids_in (length c.args.bytes.now / 8) c.args.bytes.now = let bytes = c.args.bytes.now in
     let whole = c.requires.0 in
     let room = c.if-count-gt-HEX21_NODES.false in
     rw (read_count bytes _ _ _ c.read_ids.ensures whole room) at (read_front bytes _ _ _ c.read_ids.ensures whole room) in

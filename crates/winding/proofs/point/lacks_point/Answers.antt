@@ -6,8 +6,7 @@ use Rattle.winding.proofs.point.lacks_point.Goals as goal
 pub returns-then-has_none : goal.returns-then-has_none
 unfolding lacks_point
 returns-then-has_none c =
-    let decides : let a = c.args in
-    (c.has_none.result || lacks_point a.count (drop (c.loop-i.i + 1) a.ids.now)) ≡ lacks_point a.count a.ids.now = let ids = c.args.ids.now in
+    let decides : (c.has_none.result || lacks_point c.args.count (drop (c.loop-i.i + 1) c.args.ids.now)) ≡ lacks_point c.args.count c.args.ids.now = let ids = c.args.ids.now in
     let h : c.loop-i.i < length ids = search rules in
     rw (add-one, c.has_none.ensures) (rw (drop-cons ids c.loop-i.i 0) at c.loop-i.invariant) in
     rw c.if-has_none.true at decides
@@ -15,8 +14,7 @@ returns-then-has_none c =
 pub loop-i-preserved : goal.loop-i-preserved
 unfolding lacks_point
 loop-i-preserved c =
-    let decides : let a = c.args in
-    (c.has_none.result || lacks_point a.count (drop (c.loop-i.i + 1) a.ids.now)) ≡ lacks_point a.count a.ids.now = let ids = c.args.ids.now in
+    let decides : (c.has_none.result || lacks_point c.args.count (drop (c.loop-i.i + 1) c.args.ids.now)) ≡ lacks_point c.args.count c.args.ids.now = let ids = c.args.ids.now in
     let h : c.loop-i.i < length ids = search rules in
     rw (add-one, c.has_none.ensures) (rw (drop-cons ids c.loop-i.i 0) at c.loop-i.invariant) in
     rw c.if-has_none.false at decides

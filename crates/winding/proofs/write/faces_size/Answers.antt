@@ -10,7 +10,7 @@ use Rattle.winding.proofs.write.faces_size.Goals as goal
 pub overflow_sub-face : goal.overflow_sub-face
 overflow_sub-face c =
     let found : Next c.args.ids.now c.loop-i.i c.next_face-face.result = next c.args.ids.now c.loop-i.i c.loop-i-test.true c.next_face-face.result c.next_face-face.ensures in
-    (found).run
+    found.run
 
 pub grown-size-requires : goal.grown-size-requires
 grown-size-requires c =
