@@ -1,9 +1,9 @@
 -- What holds of an input that none of the refusals 1 to 4 meets.
-use mathlib.Core.Path.{◌≡◌, refl, ap}
+use mathlib.Core.Path.{◌≡◌, refl}
 use mathlib.Core.Bool.{Bool, true, false, cond, not}
 use mathlib.Core.List.{List}
 use Prim.Native.Nat.{ℕ, ◌≤◌, ◌%◌}
-use lib.Dec.{eqb, ltb}
+use lib.Dec.{ltb}
 use lib.ListN.{length}
 use borrow.Author.Tests.{eqb-true, eqb-false, ne_eqb, ltb-false, not-false}
 use Rattle.base.specs.Kinds.{is_kind, nodes_of, element_limit, block_limit}

@@ -5,4 +5,5 @@ pub mod Picks
 pub mod Tables
 pub mod Settle
 pub mod Accepted
+pub mod Numbers
 mod Examples

@@ -7,7 +7,6 @@ use lib.Dec.{eqb, ltb}
 use lib.ListN.{length}
 use borrow.Author.Tests.{lt-ltb, le-ltb, eq-eqb, ne_eqb, eqb-true, eqb-false}
 use Rattle.base.specs.Outcome.{Outcome, Permits, or_else, decide, settle, settle_one, settle_two, overwrite, refused, given}
-use Rattle.base.specs.declared.refusals.Answer.{Answer}
 
 -- two permitted outcomes coincide, for every operation and whatever is lent
 pub coincide : {A L : Type 0} (o : Outcome A L) (a b : A) (x y : L)

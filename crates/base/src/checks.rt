@@ -1,104 +1,96 @@
-// The checks that every input passes first: refusals 1 to 4, in that order.
-ghost use Rattle.std.specs.Prelude.{◌≡◌, false, true, ◌<◌};
-ghost use Rattle.base.specs.Checks.{block_refusal, element_fits, element_refusal, holds_separator, input_refusal};
+//! The checks that every input passes first: refusals 1 to 4, in that order.
+ghost use Rattle.std.specs.Prelude.{◌≡◌, false, ◌<◌};
+ghost use Rattle.base.specs.Checks.{block_fits, block_refusal, element_fits, element_refusal, holds_separator, input_refusal};
+ghost use Rattle.base.specs.Inner.Numbers.{KindUnless, RefusedBy, number_of};
 
-use super::kinds::{Kind, is_kind, node_count};
+use super::kinds::Kind;
 use super::refusals::Refusal;
 
-// The first of the refusals 1 to 4 that one element's list meets, or 0.
-pub fn element_refusal(kind: u64, ids: &[u64]) -> u64
-    ensures { result ≡ element_refusal kind ids.now }
+/// The kind of one element, if its list meets none of the refusals 1 to 4. Every operation on one element begins with
+/// it, and is faster where it is taken in.
+#[inline(always)]
+#[tactic(auto, unfolding(crate::specs::Checks::element_refusal, crate::specs::Checks::input_refusal))]
+pub fn check_element(kind: u64, ids: &[u64]) -> Result<Kind, Refusal>
+    ensures { KindUnless (element_refusal kind ids.now) kind result }
 {
-    let fits = element_fits(kind, ids.len());
-    input_refusal(kind, ids, Kind::ELEMENT_LIMIT, fits, false)
+    let kind = Kind::try_from(kind)?;
+    check_ids(
+        kind,
+        ids,
+        Kind::ELEMENT_LIMIT,
+        element_fits(kind, ids.len()),
+    )?;
+    Ok(kind)
 }
 
-// Whether the node count is right for one element of the kind.
-pub fn element_fits(kind: u64, n: usize) -> bool
-    ensures { result ≡ element_fits kind n }
+/// Whether the node count is right for one element of the kind.
+#[tactic(auto, unfolding(crate::specs::Checks::element_fits))]
+pub fn element_fits(kind: Kind, n: usize) -> bool
+    ensures { result ≡ element_fits (number_of kind) n }
 {
-    let nodes = node_count(kind);
-    if nodes == 0 {
-        return (kind == Kind::PHED) | (0 < n);
+    match kind.nodes() {
+        Some(nodes) => n == nodes,
+        None => kind == Kind::Phed || 0 < n,
     }
-    n == nodes
 }
 
-// The first of the refusals 1 to 4 that a block of one kind meets, or 0.
-pub fn block_refusal(kind: u64, ids: &[u64]) -> u64
-    ensures { result ≡ block_refusal kind ids.now }
+/// The kind of a block, if its list meets none of the refusals 1 to 4.
+#[tactic(auto, unfolding(crate::specs::Checks::block_refusal, crate::specs::Checks::input_refusal))]
+pub fn check_block(kind: u64, ids: &[u64]) -> Result<Kind, Refusal>
+    ensures { KindUnless (block_refusal kind ids.now) kind result }
 {
-    let nodes = node_count(kind);
-    let clean = is_clean(ids);
-    if nodes == 0 {
-        return input_refusal(kind, ids, Kind::BLOCK_LIMIT, true, clean);
-    }
-    input_refusal(kind, ids, Kind::BLOCK_LIMIT, ids.len() % nodes == 0, clean)
+    let kind = Kind::try_from(kind)?;
+    check_ids(kind, ids, Kind::BLOCK_LIMIT, block_fits(kind, ids.len()))?;
+    Ok(kind)
 }
 
-// What the two share: the limit and the verdict on the node count differ. A list that is known to be
-// clean is not searched for separators.
-fn input_refusal(kind: u64, ids: &[u64], limit: usize, fits: bool, clean: bool) -> u64
-    requires { clean ≡ true → holds_separator ids.now ≡ false }
-    ensures { result ≡ input_refusal limit fits kind ids.now }
+/// Whether the node count is right for a block of the kind. It stays beside `element_fits`: the two differ in a test
+/// each, which a parameter for both would only name again.
+#[tactic(auto, unfolding(crate::specs::Checks::block_fits))]
+fn block_fits(kind: Kind, n: usize) -> bool
+    ensures { result ≡ block_fits (number_of kind) n }
 {
-    if !is_kind(kind) {
-        return Refusal::UNKNOWN_KIND;
+    match kind.nodes() {
+        Some(nodes) => n % nodes == 0,
+        None => true,
     }
+}
+
+/// What the two share: the limit and the verdict on the node count differ. A separator has the highest bit,
+/// which small ids lack: to join them takes half the instructions of comparing each, so a list is searched
+/// only where the joined bits have it.
+#[tactic(auto, unfolding(crate::specs::Checks::input_refusal, crate::specs::Checks::strays))]
+fn check_ids(kind: Kind, ids: &[u64], limit: usize, fits: bool) -> Result<(), Refusal>
+    ensures { RefusedBy (input_refusal limit fits (number_of kind) ids.now) result }
+{
     if limit < ids.len() {
-        return Refusal::TOO_MANY_ENTRIES;
+        return Err(Refusal::TooManyEntries);
     }
     if !fits {
-        return Refusal::WRONG_NODE_COUNT;
+        return Err(Refusal::WrongNodeCount);
     }
-    if kind == Kind::PHED {
-        return 0;
+    if kind != Kind::Phed && HIGHEST_BIT <= all_bits(ids) && holds_separator(ids) {
+        return Err(Refusal::StraySeparator);
     }
-    if clean {
-        return 0;
-    }
-    if holds_separator(ids) {
-        return Refusal::STRAY_SEPARATOR;
-    }
-    0
-}
-
-// Whether a separator stands in the list. This loop and the one below read the whole list with no early
-// end, so that they have no branch to mispredict and work on several ids at a time.
-fn holds_separator(ids: &[u64]) -> bool
-    ensures { result ≡ holds_separator ids.now }
-{
-    let mut found = false;
-    let mut i = 0;
-    while i < ids.len() {
-        found = found | (ids[i] == Kind::SEPARATOR);
-        i += 1;
-    }
-    found
-}
-
-// Whether a block is seen at once to have no separator, which has the highest bit: ids are small. To join
-// them takes half the instructions of comparing each. More ids than a block may have are not looked at.
-fn is_clean(ids: &[u64]) -> bool
-    ensures { result ≡ true → holds_separator ids.now ≡ false }
-{
-    if Kind::BLOCK_LIMIT < ids.len() {
-        return false;
-    }
-    all_bits(ids) < HIGHEST_BIT
+    Ok(())
 }
 
 const HIGHEST_BIT: u64 = 0x8000_0000_0000_0000;
 
-// All bits of all ids.
+/// Whether a separator stands in the list.
+fn holds_separator(ids: &[u64]) -> bool
+    ensures { result ≡ holds_separator ids.now }
+{
+    ids.contains(&Kind::SEPARATOR)
+}
+
+/// All bits of all ids.
 fn all_bits(ids: &[u64]) -> u64
     ensures { result < 9223372036854775808 → holds_separator ids.now ≡ false }
 {
     let mut bits = 0;
-    let mut i = 0;
-    while i < ids.len() {
-        bits = bits | ids[i];
-        i += 1;
+    for id in ids {
+        bits |= *id;
     }
     bits
 }

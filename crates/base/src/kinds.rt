@@ -1,50 +1,35 @@
-// The kinds of element by number, with the node counts and limits that belong to them.
+//! The kinds of element, with the node counts and limits that belong to them.
 ghost use Rattle.std.specs.Prelude.{◌≡◌};
-ghost use Rattle.base.specs.Kinds.{is_kind, nodes_of};
+ghost use Rattle.base.specs.Kinds.{nodes_of};
+ghost use Rattle.base.specs.Inner.Numbers.{IsOfKind, number_of, some_unless_zero};
 
-// What is known of a kind by its number alone.
-#[derive(Drop)]
-pub struct Kind(pub u64);
+use super::refusals::Refusal;
+
+/// A kind of element; as a number it is what the C interface and the records say.
+#[derive(Clone, Copy, Debug, PartialEq, Eq)]
+pub enum Kind {
+    Vertex = 1,
+    Seg2 = 2,
+    Seg3 = 3,
+    Seg4 = 4,
+    Tri3 = 5,
+    Tri6 = 6,
+    Tri7 = 7,
+    Quad4 = 8,
+    Quad8 = 9,
+    Quad9 = 10,
+    Tet4 = 11,
+    Tet10 = 12,
+    Wedge6 = 13,
+    Wedge15 = 14,
+    Hex8 = 15,
+    Hex21 = 16,
+    Pline = 17,
+    Pgon = 18,
+    Phed = 19,
+}
 
 impl Kind {
-    pub const VERTEX: u64 = 1;
-
-    pub const SEG2: u64 = 2;
-
-    pub const SEG3: u64 = 3;
-
-    pub const SEG4: u64 = 4;
-
-    pub const TRI3: u64 = 5;
-
-    pub const TRI6: u64 = 6;
-
-    pub const TRI7: u64 = 7;
-
-    pub const QUAD4: u64 = 8;
-
-    pub const QUAD8: u64 = 9;
-
-    pub const QUAD9: u64 = 10;
-
-    pub const TET4: u64 = 11;
-
-    pub const TET10: u64 = 12;
-
-    pub const WEDGE6: u64 = 13;
-
-    pub const WEDGE15: u64 = 14;
-
-    pub const HEX8: u64 = 15;
-
-    pub const HEX21: u64 = 16;
-
-    pub const PLINE: u64 = 17;
-
-    pub const PGON: u64 = 18;
-
-    pub const PHED: u64 = 19;
-
     pub const VERTEX_NODES: usize = 1;
 
     pub const SEG2_NODES: usize = 2;
@@ -77,44 +62,75 @@ impl Kind {
 
     pub const HEX21_NODES: usize = 21;
 
-    // Stands between the faces of a PHED; no id.
+    /// Stands between the faces of a PHED; no id.
     pub const SEPARATOR: u64 = 0xffff_ffff_ffff_ffff;
-    // The most entries of one element, separators counted.
+    /// The most entries of one element, separators counted.
     pub const ELEMENT_LIMIT: usize = 4096;
-    // The most ids of a block.
+    /// The most ids of a block.
     pub const BLOCK_LIMIT: usize = 65536;
+
+    /// The number of the kind.
+    pub fn number(self) -> u64
+        ensures { result ≡ number_of self }
+    {
+        self as u64
+    }
+
+    /// How many nodes an element of the kind has, where the kind fixes it.
+    #[tactic(auto, unfolding(crate::specs::Kinds::nodes_of))]
+    pub fn nodes(self) -> Option<usize>
+        ensures { result ≡ some_unless_zero (nodes_of (number_of self)) }
+    {
+        match self {
+            Kind::Vertex => Some(Kind::VERTEX_NODES),
+            Kind::Seg2 => Some(Kind::SEG2_NODES),
+            Kind::Seg3 => Some(Kind::SEG3_NODES),
+            Kind::Seg4 => Some(Kind::SEG4_NODES),
+            Kind::Tri3 => Some(Kind::TRI3_NODES),
+            Kind::Tri6 => Some(Kind::TRI6_NODES),
+            Kind::Tri7 => Some(Kind::TRI7_NODES),
+            Kind::Quad4 => Some(Kind::QUAD4_NODES),
+            Kind::Quad8 => Some(Kind::QUAD8_NODES),
+            Kind::Quad9 => Some(Kind::QUAD9_NODES),
+            Kind::Tet4 => Some(Kind::TET4_NODES),
+            Kind::Tet10 => Some(Kind::TET10_NODES),
+            Kind::Wedge6 => Some(Kind::WEDGE6_NODES),
+            Kind::Wedge15 => Some(Kind::WEDGE15_NODES),
+            Kind::Hex8 => Some(Kind::HEX8_NODES),
+            Kind::Hex21 => Some(Kind::HEX21_NODES),
+            Kind::Pline | Kind::Pgon | Kind::Phed => None,
+        }
+    }
 }
 
-// Whether the number is that of a kind.
-pub fn is_kind(kind: u64) -> bool
-    ensures { result ≡ is_kind kind }
-{
-    Kind::VERTEX <= kind && kind <= Kind::PHED
-}
+impl TryFrom<u64> for Kind {
+    type Error = Refusal;
 
-// How many nodes an element of the kind has; 0 where the kind does not fix it.
-#[tactic(auto, unfolding(crate::specs::Kinds::nodes_of))]
-pub fn node_count(kind: u64) -> usize
-    ensures { result ≡ nodes_of kind }
-{
-    match kind {
-        0 => 0,
-        Kind::VERTEX => Kind::VERTEX_NODES,
-        Kind::SEG2 => Kind::SEG2_NODES,
-        Kind::SEG3 => Kind::SEG3_NODES,
-        Kind::SEG4 => Kind::SEG4_NODES,
-        Kind::TRI3 => Kind::TRI3_NODES,
-        Kind::TRI6 => Kind::TRI6_NODES,
-        Kind::TRI7 => Kind::TRI7_NODES,
-        Kind::QUAD4 => Kind::QUAD4_NODES,
-        Kind::QUAD8 => Kind::QUAD8_NODES,
-        Kind::QUAD9 => Kind::QUAD9_NODES,
-        Kind::TET4 => Kind::TET4_NODES,
-        Kind::TET10 => Kind::TET10_NODES,
-        Kind::WEDGE6 => Kind::WEDGE6_NODES,
-        Kind::WEDGE15 => Kind::WEDGE15_NODES,
-        Kind::HEX8 => Kind::HEX8_NODES,
-        Kind::HEX21 => Kind::HEX21_NODES,
-        _ => 0,
+    ghost try_from_gives = { IsOfKind };
+
+    /// The kind of a number, or refusal 1.
+    fn try_from(number: u64) -> Result<Kind, Refusal> {
+        match number {
+            1 => Ok(Kind::Vertex),
+            2 => Ok(Kind::Seg2),
+            3 => Ok(Kind::Seg3),
+            4 => Ok(Kind::Seg4),
+            5 => Ok(Kind::Tri3),
+            6 => Ok(Kind::Tri6),
+            7 => Ok(Kind::Tri7),
+            8 => Ok(Kind::Quad4),
+            9 => Ok(Kind::Quad8),
+            10 => Ok(Kind::Quad9),
+            11 => Ok(Kind::Tet4),
+            12 => Ok(Kind::Tet10),
+            13 => Ok(Kind::Wedge6),
+            14 => Ok(Kind::Wedge15),
+            15 => Ok(Kind::Hex8),
+            16 => Ok(Kind::Hex21),
+            17 => Ok(Kind::Pline),
+            18 => Ok(Kind::Pgon),
+            19 => Ok(Kind::Phed),
+            _ => Err(Refusal::UnknownKind),
+        }
     }
 }

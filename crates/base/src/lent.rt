@@ -1,4 +1,4 @@
-// The writers over the front of a lent slice; what lies behind the answer stays.
+//! The writers over the front of a lent slice; what lies behind the answer stays.
 ghost use Rattle.std.specs.Prelude.{◌≡◌, ◌-◌, ◌≤◌, get_or, length};
 ghost use Rattle.base.specs.Gather.{pick, undigit};
 ghost use Rattle.base.specs.Kinds.{separator};
@@ -6,47 +6,37 @@ ghost use Rattle.base.specs.Outcome.{overwrite};
 
 use super::kinds::Kind;
 
-// The list over the front of out.
+/// The list over the front of out.
+#[tactic(auto, unfolding(crate::specs::Outcome::overwrite))]
 pub fn copy(list: &[u64], out: &mut [u64])
     requires { length list.now ≤ length out.old }
     ensures { out.new ≡ overwrite list.now out.old }
 {
-    let mut i = 0;
-    while i < list.len() {
-        out[i] = list[i];
-        i += 1;
-    }
+    let n = list.len();
+    out[..n].copy_from_slice(list);
 }
 
-// The ids at a row of corners, written as digits, over the front of out.
+/// The ids at a row of corners, written as digits, over the front of out.
 pub fn gather_digits(ids: &[u64], row: &[u8], out: &mut [u64])
     requires { length row.now ≤ length out.old }
     ensures { out.new ≡ overwrite (pick ids.now (undigit row.now)) out.old }
 {
-    let mut at = 0;
-    while at < row.len() {
-        out[at] = node(ids, corner_of(row[at]));
-        at += 1;
+    for (at, digit) in row.iter().enumerate() {
+        out[at] = node(ids, corner_of(*digit));
     }
 }
 
-// The id at a corner; a corner past the last node stands for the separator.
+/// The id at a corner; a corner past the last node stands for the separator.
+/// The spec gives the separator for a corner that is lacking, so this is no `Option`.
 pub fn node(ids: &[u64], corner: usize) -> u64
     ensures { result ≡ get_or ids.now corner separator }
 {
-    if corner < ids.len() {
-        ids[corner]
-    } else {
-        Kind::SEPARATOR
-    }
+    ids.get(corner).copied().unwrap_or(Kind::SEPARATOR)
 }
 
-// The corner that a digit of ASCII stands for. The colon, which follows 9, stands for corner 10.
+/// The corner that a digit of ASCII stands for. The colon, which follows 9, stands for corner 10.
 fn corner_of(digit: u8) -> usize
     ensures { result ≡ digit - 48 }
 {
-    if digit < 48 {
-        return 0;
-    }
-    (digit - 48) as usize
+    usize::from(digit.saturating_sub(b'0'))
 }

@@ -1,5 +1,5 @@
-// The vocabulary that every layer shares: kinds, refusals, answers, the checks of an input, and the
-// two writers over the front of a lent slice.
+//! The vocabulary that every layer shares: kinds, refusals, answers, the checks of an input, and the
+//! two writers over the front of a lent slice.
 #![tactic(auto)]
 
 pub mod checks;

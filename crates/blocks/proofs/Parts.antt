@@ -2,25 +2,25 @@
 use mathlib.Core.Path.{◌≡◌, refl, sym, ◌∙◌, ap}
 use mathlib.Core.Bool.{Bool, true, false, cond, ◌||◌, false≢true}
 use mathlib.Core.List.{List, [], ◌∷◌, ◌++◌, append_assoc, append-nil}
-use Prim.Native.Nat.{ℕ, zero, suc, ◌+◌, ◌*◌, ◌-◌, ◌/◌, ◌≤◌, ◌<◌}
-use native.Mathlib.Nat.{zero-add, suc-add, zero-mul, suc-mul, add_comm, mul-le-mul_left, mul-le-mul_right, div-add-mod'}
+use Prim.Native.Nat.{ℕ, zero, suc, ◌+◌, ◌*◌, ◌/◌, ◌≤◌, ◌<◌}
+use native.Mathlib.Nat.{zero-add, suc-add, zero-mul, suc-mul, add_comm, div-add-mod'}
+use native.Mathlib.Numerals.{add-one}
 use native.Mathlib.Omega.{arith}
 use lib.Dec.{eqb}
-use lib.ListN.{length, take, drop, length-append, length-drop}
-use lib.Seq.{drop-drop, length-take-le}
-use borrow.Author.Tests.{eqb-true, eqb-false, ne_eqb}
+use lib.ListN.{length, take, drop, get_or, length-append, take-append-drop}
+use lib.Seq.{drop-drop, take-suc}
+use borrow.Author.Tests.{eqb-true, eqb-false}
 use Rattle.base.specs.Solids.{is_solid}
 use Rattle.base.specs.Gather.{pick}
 use Rattle.base.specs.Kinds.{nodes_of}
-use Rattle.base.specs.Inner.Place.{put_at}
-use Rattle.base.specs.Outcome.{overwrite}
 use Rattle.base.specs.Checks.{block_refusal}
 use Rattle.base.proofs.Accepted.{block_accepted}
-use Rattle.base.proofs.Lists.{overwrite_more}
-use Rattle.cuts.specs.Split.{cut, simplexes, split, split_count, split_kind}
+use Rattle.cuts.specs.Split.{cut, hex_cut, simplexes, split, split_count, split_kind, wedge_cut}
 use Rattle.cuts.specs.Demand3.{Cell, splits}
 use Rattle.cuts.proofs.Cuts.{split-length, three_rows, rows_most, hex_least}
+use Rattle.std.specs.Simd.{first_chunks}
 use Rattle.blocks.specs.Blocks.{cells, counts, split_block_refusal}
+use Rattle.blocks.specs.Inner.Filled.{cells_by}
 
 pub splits-append : (cs ds : List Cell) → splits (cs ++ ds) ≡ splits cs ++ splits ds
 splits-append [] ds = refl
@@ -50,10 +50,6 @@ solid_is kind h = go (eqb kind 11) (eqb kind 13) (eqb kind 15) refl refl refl h
     go false false false e f g h = absurd (false≢true h)
 
 module _ (kind : ℕ) where
-  -- cell i of a block
-  abbrev pub cell_at : List ℕ → ℕ → List ℕ
-  cell_at ids i = take (nodes_of kind) (drop (i * nodes_of kind) ids)
-
   pub cells-append : (i k : ℕ) (ids : List ℕ) → cells kind (i + k) ids ≡ cells kind i ids ++ cells kind k (drop (i * nodes_of kind) ids)
   unfolding cells
   cells-append zero k ids = rw (zero-add k, zero-mul (nodes_of kind))
@@ -65,56 +61,62 @@ module _ (kind : ℕ) where
       ∙ ap (λ (xs : List ℕ). cells kind i (drop n ids) ++ cells kind k xs)
       (drop-drop (i * n) n ids ∙ ap (λ (m : ℕ). drop m ids) (add_comm n (i * n) ∙ sym (suc-mul i n)))))
 
-  module _ (ids : List ℕ) where
-    -- the next cell's tetrahedra stand behind those of the first i
-    pub splits_more : (i : ℕ) → splits (cells kind (i + 1) ids) ≡ splits (cells kind i ids) ++ split kind (cell_at ids i)
-    unfolding cells
-    splits_more i =
-        ap splits (cells-append i 1 ids)
-        ∙ splits-append (cells kind i ids) (cells kind 1 (drop (i * nodes_of kind) ids))
-        ∙ ap (λ (xs : List ℕ). splits (cells kind i ids) ++ xs) (append-nil (split kind (cell_at ids i)))
+  -- a block's cells are its chunks
+  pub by_chunks : (n : ℕ) (ids : List ℕ) → cells kind n ids ≡ cells_by kind (first_chunks (nodes_of kind) n ids)
+  unfolding cells cells_by
+  by_chunks zero ids = refl
+  by_chunks (suc n) ids =
+      ap (λ (cs : List Cell). record { kind = kind; ids = take (nodes_of kind) ids } ∷ cs) (by_chunks n (drop (nodes_of kind) ids))
 
-    pub counts_more : (i : ℕ) → counts (cells kind (i + 1) ids) ≡ counts (cells kind i ids) + split_count kind (cell_at ids i)
-    unfolding cells counts
-    counts_more i =
-        ap counts (cells-append i 1 ids)
-        ∙ counts-append (cells kind i ids) (cells kind 1 (drop (i * nodes_of kind) ids))
-        ∙ omega arith
+  by_append : (xs ys : List (List ℕ)) → cells_by kind (xs ++ ys) ≡ cells_by kind xs ++ cells_by kind ys
+  unfolding cells_by
+  by_append [] ys = refl
+  by_append (x ∷ xs) ys = ap (λ (cs : List Cell). record { kind = kind; ids = x } ∷ cs) (by_append xs ys)
+
+  module _ (bs : List (List ℕ)) where
+    one_more : (i : ℕ) → i < length bs
+        → cells_by kind (take (i + 1) bs) ≡ cells_by kind (take i bs) ++ (record { kind = kind; ids = get_or bs i [] } ∷ [])
+    unfolding cells_by
+    one_more i h = rw (add-one, take-suc bs i []) (by_append (take i bs) (get_or bs i [] ∷ []))
+
+    -- the next cell's tetrahedra stand behind those of the first i
+    pub splits_more : (i : ℕ) → i < length bs
+        → splits (cells_by kind (take (i + 1) bs)) ≡ splits (cells_by kind (take i bs)) ++ split kind (get_or bs i [])
+    splits_more i h =
+        ap splits (one_more i h) ∙ splits-append (cells_by kind (take i bs)) _
+        ∙ ap (λ (xs : List ℕ). splits (cells_by kind (take i bs)) ++ xs) (append-nil (split kind (get_or bs i [])))
+
+    pub counts_more : (i : ℕ) → i < length bs
+        → counts (cells_by kind (take (i + 1) bs)) ≡ counts (cells_by kind (take i bs)) + split_count kind (get_or bs i [])
+    unfolding counts
+    counts_more i h = ap counts (one_more i h) ∙ counts-append (cells_by kind (take i bs)) _ ∙ omega arith
 
     -- where all find room, the next does
-    pub next_room : (i n room : ℕ) → i < n → length (splits (cells kind n ids)) ≤ room
-        → length (splits (cells kind i ids)) + length (split kind (cell_at ids i)) ≤ room
-    next_room i n room h l =
-        let rest = cells kind (n - (i + 1)) (drop ((i + 1) * nodes_of kind) ids) in
-        let e : n ≡ i + 1 + (n - (i + 1)) = omega arith in
-        let whole : splits (cells kind n ids) ≡ splits (cells kind (i + 1) ids) ++ splits rest =
-        ap (λ (k : ℕ). splits (cells kind k ids)) e ∙ ap splits (cells-append (i + 1) (n - (i + 1)) ids) ∙ splits-append (cells kind (i + 1) ids) rest in
+    pub next_room : (i room : ℕ) → i < length bs → length (splits (cells_by kind bs)) ≤ room
+        → length (splits (cells_by kind (take i bs))) + length (split kind (get_or bs i [])) ≤ room
+    next_room i room h l =
+        let rest = cells_by kind (drop (i + 1) bs) in
+        let whole : splits (cells_by kind bs) ≡ splits (cells_by kind (take (i + 1) bs)) ++ splits (cells_by kind (drop (i + 1) bs)) =
+        ap (λ (xs : List (List ℕ)). splits (cells_by kind xs)) (sym (take-append-drop (i + 1) bs))
+        ∙ ap splits (by_append (take (i + 1) bs) (drop (i + 1) bs))
+        ∙ splits-append (cells_by kind (take (i + 1) bs)) (cells_by kind (drop (i + 1) bs)) in
         omega (
           arith,
           ap length whole,
-          length-append (splits (cells kind (i + 1) ids)) (splits rest),
-          ap length (splits_more i),
-          length-append (splits (cells kind i ids)) (split kind (cell_at ids i)),
+          length-append (splits (cells_by kind (take (i + 1) bs))) (splits rest),
+          ap length (splits_more i h),
+          length-append (splits (cells_by kind (take i bs))) (split kind (get_or bs i [])),
         )
 
-    pub next_fits : (i n room : ℕ) → i < n → length (splits (cells kind n ids)) ≤ room
-        → length (splits (cells kind (i + 1) ids)) ≤ room
-    next_fits i n room h l =
-        omega (arith, next_room i n room h l, ap length (splits_more i), length-append (splits (cells kind i ids)) (split kind (cell_at ids i)))
-
-    -- a turn of the loop that writes them
-    module _ (i at : ℕ) (h : at ≡ length (splits (cells kind i ids))) where
-      pub next_written : (out entry lent : List ℕ) → out ≡ overwrite (splits (cells kind i ids)) entry
-          → lent ≡ put_at (split kind (cell_at ids i)) at out
-          → lent ≡ overwrite (splits (cells kind (i + 1) ids)) entry
-      unfolding put_at
-      next_written out entry lent e l =
-          l ∙ rw (e, h) (overwrite_more (splits (cells kind i ids)) (split kind (cell_at ids i)) entry)
-          ∙ ap (λ (xs : List ℕ). overwrite xs entry) (sym (splits_more i))
-
-      pub next_at : (made : ℕ) → made * 4 ≡ length (split kind (cell_at ids i)) → at + made * 4 ≡ length (splits (cells kind (i + 1) ids))
-      next_at made m =
-          omega (arith, ap length (splits_more i), length-append (splits (cells kind i ids)) (split kind (cell_at ids i)))
+    -- the first do not count more than all
+    pub counts_part : (i : ℕ) → counts (cells_by kind (take i bs)) ≤ counts (cells_by kind bs)
+    counts_part i =
+        omega (
+          arith,
+          ap (λ (xs : List (List ℕ)). counts (cells_by kind xs)) (take-append-drop i bs),
+          ap counts (by_append (take i bs) (drop i bs)),
+          counts-append (cells_by kind (take i bs)) (cells_by kind (drop i bs)),
+        )
 
   -- four ids a tetrahedron, of one cell
   pub four_of_one : nodes_of (split_kind kind) ≡ 4 → (cell : List ℕ) → split_count kind cell * 4 ≡ length (split kind cell)
@@ -133,25 +135,12 @@ module _ (kind : ℕ) where
         four_each e n (drop (nodes_of kind) ids),
       )
 
--- a cell that is lent on as a part of a block
-pub part : (from n : ℕ) (ids : List ℕ) → take (from + n - from) (drop from ids) ≡ take n (drop from ids)
-part from n ids = let e : from + n - from ≡ n = omega arith in rw e
-
-pub part_long : (from n : ℕ) (ids : List ℕ) → from + n ≤ length ids → length (take (from + n - from) (drop from ids)) ≡ n
-part_long from n ids h =
-    let k : n ≤ length (drop from ids) = rw (length-drop from ids) (omega arith) in
-    rw (part from n ids) (length-take-le n (drop from ids) k)
-
--- a whole cell is left
-pub cell_left : (i n m size : ℕ) → i < n → n * m ≤ size → i * m + m ≤ size
-cell_left i n m size h l =
-    let k : suc i ≤ n = omega arith in
-    let e : suc i * m ≤ n * m = mul-le-mul_right m k in
-    omega (arith, suc-mul i m)
-
--- no more than 65,536 ids, so that nothing that is counted is too large
-pub few_cells : (kind n size : ℕ) → Solid kind → n * nodes_of kind ≤ size → n * 4 ≤ size
-few_cells kind n size s h = let k = mul-le-mul_left n s.least in omega arith
+-- the same by their ids
+pub four_by : (kind : ℕ) → nodes_of (split_kind kind) ≡ 4 → (bs : List (List ℕ)) → length (splits (cells_by kind bs)) ≡ counts (cells_by kind bs) * 4
+unfolding cells_by counts
+four_by kind e [] = refl
+four_by kind e (cell ∷ bs) =
+    omega (arith, four_of_one kind e cell, length-append (split kind cell) (splits (cells_by kind bs)), four_by kind e bs)
 
 -- a whole TET4 takes four ids
 none_left : (n few : ℕ) → few < 4 → suc n * 4 ≤ few → ⊥
@@ -174,49 +163,56 @@ tets_stay (suc n) (a ∷ b ∷ c ∷ d ∷ ids) h =
     rw (e, tet_stays a b c d, tets_stay n ids (omega (arith, h)))
 
 -- a TET4 is one tetrahedron, a WEDGE6 three, a HEX8 at most six
-pub tet-counts : (n : ℕ) (ids : List ℕ) → counts (cells 11 n ids) ≡ n
+pub tet_counts : (n : ℕ) (ids : List ℕ) → counts (cells 11 n ids) ≡ n
 unfolding cells counts split_count cut
-tet-counts zero ids = refl
-tet-counts (suc n) ids = omega (arith, tet-counts n (drop (nodes_of 11) ids))
+tet_counts zero ids = refl
+tet_counts (suc n) ids = omega (arith, tet_counts n (drop (nodes_of 11) ids))
 
-pub wedge-counts : (n : ℕ) (ids : List ℕ) → counts (cells 13 n ids) ≡ n * 3
-unfolding cells counts split_count cut
-wedge-counts zero ids = refl
-wedge-counts (suc n) ids = omega (arith, three_rows (take (nodes_of 13) ids), wedge-counts n (drop (nodes_of 13) ids))
+pub wedge_counts : (bs : List (List ℕ)) → counts (cells_by 13 bs) ≡ length bs * 3
+unfolding cells_by counts split_count cut
+wedge_counts [] = refl
+wedge_counts (cell ∷ bs) = omega (arith, three_rows cell, wedge_counts bs)
 
-pub hex_counts : (n : ℕ) (ids : List ℕ) → counts (cells 15 n ids) ≤ n * 6
-unfolding cells counts split_count
-hex_counts zero ids = omega arith
-hex_counts (suc n) ids = omega (arith, rows_most 15 (take (nodes_of 15) ids), hex_counts n (drop (nodes_of 15) ids))
+pub hex_counts : (bs : List (List ℕ)) → counts (cells_by 15 bs) ≤ length bs * 6
+unfolding cells_by counts split_count
+hex_counts [] = omega arith
+hex_counts (cell ∷ bs) = omega (arith, rows_most 15 cell, hex_counts bs)
 
 -- four ids a tetrahedron, of bricks and of wedges
 pub brick_ids : (cell : List ℕ) → split_count 15 cell * 4 ≡ length (split 15 cell)
 unfolding nodes_of split_kind
 brick_ids cell = four_of_one 15 refl cell
 
+-- no cell is there
+pub none_there : (bs : List (List ℕ)) → (1 ≤ length bs → ⊥) → bs ≡ []
+none_there [] h = refl
+none_there (cell ∷ bs) h = absurd (h (omega arith))
+
+-- the split of a brick and of a wedge, as a row of the table gives it
+pub hex_split : (cell : List ℕ) → split 15 cell ≡ simplexes 4 (hex_cut cell)
+unfolding split split_kind cut nodes_of
+hex_split cell = refl
+
+pub hex_number : (cell : List ℕ) → split_count 15 cell ≡ length (hex_cut cell).rows
+unfolding split_count cut
+hex_number cell = refl
+
+pub wedge_split : (cell : List ℕ) → split 13 cell ≡ simplexes 4 (wedge_cut cell)
+unfolding split split_kind cut nodes_of
+wedge_split cell = refl
+
 -- a brick has at least five
 pub brick_least : (cell : List ℕ) → 20 ≤ length (split 15 cell)
 unfolding nodes_of split_kind split_count cut
 brick_least cell = omega (arith, split-length 15 cell, hex_least cell)
 
-pub bricks_ids : (n : ℕ) (ids : List ℕ) → length (splits (cells 15 n ids)) ≡ counts (cells 15 n ids) * 4
+pub bricks_ids : (bs : List (List ℕ)) → length (splits (cells_by 15 bs)) ≡ counts (cells_by 15 bs) * 4
 unfolding nodes_of split_kind
-bricks_ids n ids = four_each 15 refl n ids
+bricks_ids bs = four_by 15 refl bs
 
-pub wedges_ids : (n : ℕ) (ids : List ℕ) → n * 12 ≡ length (splits (cells 13 n ids))
+pub wedges_ids : (bs : List (List ℕ)) → length (splits (cells_by 13 bs)) ≡ length bs * 12
 unfolding nodes_of split_kind
-wedges_ids n ids = omega (arith, four_each 13 refl n ids, wedge-counts n ids)
-
--- what fills space is a HEX8 if it is no TET4 and no WEDGE6, and a TET4 if it is none of the others
-pub hex_left : (kind : ℕ) → is_solid kind ≡ true → (kind ≡ 11 → ⊥) → (kind ≡ 13 → ⊥) → kind ≡ 15
-hex_left kind h a b = eqb-true kind 15 (simp (ne_eqb kind 11 a, ne_eqb kind 13 b) at h)
-
-pub tet_left : (kind : ℕ) → is_solid kind ≡ true → (kind ≡ 15 → ⊥) → (kind ≡ 13 → ⊥) → kind ≡ 11
-tet_left kind h a b = go (eqb kind 11) refl (simp (ne_eqb kind 13 b, ne_eqb kind 15 a) at h)
-  where
-    go : (x : Bool) → eqb kind 11 ≡ x → (x || false) ≡ true → kind ≡ 11
-    go true e h = eqb-true kind 11 e
-    go false e h = absurd (false≢true h)
+wedges_ids bs = omega (arith, four_by 13 refl bs, wedge_counts bs)
 
 -- a block that is not refused: its kind fills space, its ids are few, and its cells are whole
 pub record Taken (kind : ℕ) (ids : List ℕ) : Type 0 where

@@ -12,7 +12,7 @@ use Rattle.base.specs.Gather.{pick, digits, corners, undigit}
 use Rattle.base.proofs.Picks.{length-pick}
 use Rattle.cuts.specs.Smallest.{smallest_pos, first_diagonal}
 use Rattle.cuts.specs.Rows.{branch, seg_rows, quad_rows, wedge_quads, wedge_first, wedge_second, hex_rows}
-use Rattle.cuts.specs.Inner.Strings.{case_strings, wedge_strings, quad_strings}
+use Rattle.cuts.specs.Inner.Strings.{hex_strings, wedge_strings, quad_strings}
 use Rattle.cuts.proofs.Strings.{quad_string, wedge_string, case_string, pick-take}
 use Rattle.cuts.proofs.Laws.{below_at}
 use Rattle.cuts.specs.Split.{Cut, quad, cut, split, split_kind, split_count, simplexes, wedge_cut, hex_case, renumbered, hex_cut}
@@ -53,7 +53,7 @@ wedge_row ids place b e d =
 
 -- the brick's row, from its case and the number of tetrahedra of that case
 pub hex_row_lem : (ids row : List ℕ) (case count : ℕ) → case ≡ hex_case (renumbered ids) → case < 8
-    → count ≡ length (branch hex_rows [] case) → row ≡ get_or case_strings case []
+    → count ≡ length (branch hex_rows [] case) → row ≡ get_or hex_strings case []
     → (take (count * 4) (undigit row) ≡ corners 4 (hex_cut ids).rows) × (count ≡ length (hex_cut ids).rows)
 hex_row_lem ids row case count e few k r = (
   ap₂ (λ (k : ℕ) (r : List ℕ). take (k * 4) (undigit r)) k r ∙ case_string case few ∙ ap (λ (k : ℕ). corners 4 (branch hex_rows [] k)) e,

@@ -6,10 +6,9 @@ use Prim.Native.Nat.{ℕ, zero, suc, ◌+◌, ◌*◌, ◌%◌, ◌<◌}
 use lib.Dec.{T, eqb, leb, ltb, eqb→eq, leb→le, ltb→lt}
 use lib.ListN.{length, get_or, take}
 use Rattle.base.specs.Gather.{pick, digits, corners, undigit}
-use Rattle.base.specs.Outcome.{overwrite}
 use Rattle.cuts.specs.Rows.{branch, wedge_quads, wedge_first, wedge_second, renumberings, hex_rows}
 use Rattle.cuts.specs.Table.{hex_table, used}
-use Rattle.cuts.specs.Inner.Strings.{Within, hex_strings, turn_strings, case_strings, wedge_strings, quad_strings}
+use Rattle.cuts.specs.Inner.Strings.{Within, hex_strings, turn_strings, wedge_strings, quad_strings}
 use Rattle.cuts.proofs.Laws.{and_left, and_right, below_at, all, all_at, eqs, eqs_eq}
 
 pub quad_string : (k : ℕ) → k < 6 → undigit (get_or quad_strings k []) ≡ digits 4 (get_or wedge_quads k 0)
@@ -30,13 +29,13 @@ unfolding turn_strings
 turn_string k h =
     eqs_eq _ _ (below_at 8 (λ k. eqs (undigit (get_or turn_strings k [])) (digits 8 (get_or renumberings k 0))) tt k h)
 
--- the tetrahedra of a row of 24 end where the filler begins
+-- the tetrahedra of a row of 24 end where the filler begins; the first eight rows are those of a brick that is renumbered
 pub case_string : (k : ℕ) → k < 8
-    → take (length (branch hex_rows [] k) * 4) (undigit (get_or case_strings k [])) ≡ corners 4 (branch hex_rows [] k)
-unfolding case_strings overwrite
+    → take (length (branch hex_rows [] k) * 4) (undigit (get_or hex_strings k [])) ≡ corners 4 (branch hex_rows [] k)
+unfolding hex_strings
 case_string k h =
     eqs_eq _ _
-    (below_at 8 (λ k. eqs (take (length (branch hex_rows [] k) * 4) (undigit (get_or case_strings k []))) (corners 4 (branch hex_rows [] k))) tt k h)
+    (below_at 8 (λ k. eqs (take (length (branch hex_rows [] k) * 4) (undigit (get_or hex_strings k []))) (corners 4 (branch hex_rows [] k))) tt k h)
 
 pub hex_string : (k : ℕ) → k < 64
     → take (length (used (get_or hex_table k [])) * 4) (undigit (get_or hex_strings k [])) ≡ corners 4 (used (get_or hex_table k []))
@@ -71,10 +70,6 @@ wedge_within k h = in_range_lem 6 (get_or wedge_strings k []) (below_at 12 (λ k
 pub turn_within : (k : ℕ) → k < 8 → Within 8 (get_or turn_strings k [])
 unfolding turn_strings
 turn_within k h = in_range_lem 8 (get_or turn_strings k []) (below_at 8 (λ k. in_range 8 (get_or turn_strings k [])) tt k h)
-
-pub case_within : (k : ℕ) → k < 8 → Within 8 (get_or case_strings k [])
-unfolding case_strings overwrite
-case_within k h = in_range_lem 8 (get_or case_strings k []) (below_at 8 (λ k. in_range 8 (get_or case_strings k [])) tt k h)
 
 pub hex_within : (k : ℕ) → k < 64 → Within 8 (get_or hex_strings k [])
 unfolding hex_strings

@@ -1,10 +1,11 @@
-// The tables: which corners make up the tetrahedra of a wedge and of a brick, a row a string of digits.
+//! The tables: which corners make up the tetrahedra of a wedge and of a brick, a row a string of digits.
 ghost use Rattle.std.specs.Prelude.{[], ◌≡◌, ◌<◌, ◌≤◌, get_or, length};
 ghost use Rattle.cuts.specs.Rows.{branch, hex_rows};
-ghost use Rattle.cuts.specs.Inner.Strings.{case_strings, hex_strings, quad_strings, turn_strings, wedge_strings};
+ghost use Rattle.cuts.specs.Inner.Strings.{hex_strings, quad_strings, turn_strings, wedge_strings};
 ghost use Rattle.cuts.specs.Table.{hex_table, used};
 
-// The brick: eight rows for each place of the smallest, in the order of the cases. 0000 fills the rows of five.
+/// The brick: eight rows for each place of the smallest, in the order of the cases. 0000 fills the rows of five.
+/// The first eight are the rows of a brick that is renumbered.
 const HEX_TABLE: [[u8; 24]; 64] = [
     *b"056401260165067402370276",
     *b"056401260165067406370236",
@@ -72,19 +73,7 @@ const HEX_TABLE: [[u8; 24]; 64] = [
     *b"720372107140765271257415",
 ];
 
-// The rows of a brick that is renumbered, by its case.
-const CASES: [[u8; 24]; 8] = [
-    *b"056401260165067402370276",
-    *b"056401260165067406370236",
-    *b"056401250526067402370276",
-    *b"056401250526067406370236",
-    *b"057401650675012607230762",
-    *b"057401650675012606370236",
-    *b"057401252675023705270000",
-    *b"057405670637012506520362",
-];
-
-// The brick's corners in the order that begins at its smallest, by the place of the smallest.
+/// The brick's corners in the order that begins at its smallest, by the place of the smallest.
 const RENUMBERINGS: [[u8; 8]; 8] = [
     *b"01234567",
     *b"12305674",
@@ -96,8 +85,8 @@ const RENUMBERINGS: [[u8; 8]; 8] = [
     *b"76543210",
 ];
 
-// The wedge: two rows for each place of the smallest, where the quad that is left is cut along its first
-// diagonal and where it is cut along its second.
+/// The wedge: two rows for each place of the smallest, where the quad that is left is cut along its first
+/// diagonal and where it is cut along its second.
 const WEDGE_TABLE: [[u8; 12]; 12] = [
     *b"045301540512",
     *b"045302410425",
@@ -113,57 +102,55 @@ const WEDGE_TABLE: [[u8; 12]; 12] = [
     *b"510251305314",
 ];
 
-// The quad that is left beside a wedge's smallest, in the order in which it is searched.
+/// The quad that is left beside a wedge's smallest, in the order in which it is searched.
 const WEDGE_QUADS: [[u8; 4]; 6] = [*b"1254", *b"2035", *b"0143", *b"1254", *b"2035", *b"0143"];
 
-// The cases of the brick, and the one of them with five tetrahedra.
+/// How many cases the brick has.
 pub const HEX_CASES: usize = 8;
 
+/// The case with five tetrahedra.
 const FIVE_ROWS: usize = 6;
 
-// A mention of a table builds it anew, so a block takes each once and lends it on.
-pub fn hex_table() -> [[u8; 24]; 64]
-    ensures { result ≡ hex_strings }
+/// One function for each table: each has a type and a definition of its own.
+#[tactic(auto, unfolding(crate::specs::Inner::Strings::hex_strings))]
+pub fn hex_table() -> &'static [[u8; 24]; 64]
+    ensures { result.now ≡ hex_strings }
 {
-    HEX_TABLE
+    &HEX_TABLE
 }
 
-pub fn cases() -> [[u8; 24]; 8]
-    ensures { result ≡ case_strings }
+#[tactic(auto, unfolding(crate::specs::Inner::Strings::turn_strings))]
+pub fn renumberings() -> &'static [[u8; 8]; 8]
+    ensures { result.now ≡ turn_strings }
 {
-    CASES
+    &RENUMBERINGS
 }
 
-pub fn renumberings() -> [[u8; 8]; 8]
-    ensures { result ≡ turn_strings }
+#[tactic(auto, unfolding(crate::specs::Inner::Strings::wedge_strings))]
+pub fn wedge_table() -> &'static [[u8; 12]; 12]
+    ensures { result.now ≡ wedge_strings }
 {
-    RENUMBERINGS
+    &WEDGE_TABLE
 }
 
-pub fn wedge_table() -> [[u8; 12]; 12]
-    ensures { result ≡ wedge_strings }
+#[tactic(auto, unfolding(crate::specs::Inner::Strings::quad_strings))]
+pub fn wedge_quads() -> &'static [[u8; 4]; 6]
+    ensures { result.now ≡ quad_strings }
 {
-    WEDGE_TABLE
+    &WEDGE_QUADS
 }
 
-pub fn wedge_quads() -> [[u8; 4]; 6]
-    ensures { result ≡ quad_strings }
-{
-    WEDGE_QUADS
-}
-
-// How many tetrahedra a case of the brick has.
-pub fn case_count(case: usize) -> u64
+/// How many tetrahedra a case of the brick has.
+#[tactic(auto, using(crate::proofs::Laws::six_rows))]
+pub fn case_count(case: usize) -> usize
     ensures { (result ≡ length (branch hex_rows [] case)) × (result ≤ 6) }
 {
-    if case == FIVE_ROWS {
-        return 5;
-    }
-    6
+    if case == FIVE_ROWS { 5 } else { 6 }
 }
 
-// How many tetrahedra a row of the brick's table has.
-pub fn row_count(row: usize) -> u64
+/// How many tetrahedra a row of the brick's table has.
+#[tactic(auto, using(crate::proofs::Strings::row_case))]
+pub fn row_count(row: usize) -> usize
     requires { row < 64 }
     ensures { (result ≡ length (used (get_or hex_table row []))) × (result ≤ 6) }
 {

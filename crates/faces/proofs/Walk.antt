@@ -2,7 +2,7 @@
 use Prim.Native.Nat.{ℕ, suc, ◌+◌, ◌-◌, ◌≤◌, ◌<◌}
 use mathlib.Core.Path.{◌≡◌, refl, sym, ap, ◌∙◌}
 use mathlib.Core.List.{List, [], ◌∷◌}
-use mathlib.Core.Bool.{Bool, true, false, cond}
+use mathlib.Core.Bool.{Bool, true, false, cond, not, beq}
 use native.Mathlib.Numerals.{add-one}
 use native.Mathlib.Nat.{add-sub_cancel_left}
 use native.Mathlib.Omega.{arith}
@@ -10,21 +10,10 @@ use lib.ListN.{length, get_or, take, drop, drop_of_length-le, length-drop}
 use lib.Seq.{drop-cons, drop-drop, length-take-le}
 use lib.Dec.{eqb}
 use Rattle.base.specs.Kinds.{separator}
-use Rattle.faces.specs.declared.Face.{Face}
 use Rattle.faces.specs.Faces.{onto, runs, lead, full, faces}
-use Rattle.faces.specs.Inner.Walk.{agree, span, start_of, end_of, next_face, part}
+use Rattle.faces.specs.Inner.Walk.{Face, agree, span, start_of, end_of, next_face, part}
 
--- one step of the walk over a span, where the test p of the entry at i is r
-pub span_step : (t : Bool) (l : List ℕ) (i : ℕ) (p r : Bool) → i < length l → p ≡ agree t (eqb (get_or l i 0) separator) → p ≡ r
-    → span t (drop i l) ≡ cond r (suc (span t (drop (i + 1) l))) 0
-unfolding span
-span_step t l i p r h e q = simp (add-one, drop-cons l i 0 h, ← e, q)
-
-pub span_end : (t : Bool) (l : List ℕ) (i : ℕ) → length l ≤ i → span t (drop i l) ≡ 0
-unfolding span
-span_end t l i h = rw (drop_of_length-le l h)
-
-span-le : (t : Bool) (l : List ℕ) → span t l ≤ length l
+pub span-le : (t : Bool) (l : List ℕ) → span t l ≤ length l
 unfolding span
 span-le t [] = omega arith
 span-le t (x ∷ l) = go (agree t (eqb x separator)) (span-le t l)
@@ -160,3 +149,38 @@ module _ (l : List ℕ) (at : ℕ) (f : Face) (n : Next l at f) where
       let stop : length l ≤ f.end = omega (arith, n.last e) in
       let none : f.end - f.start ≡ 0 = omega arith in
       n.face ∙ rw none (no_more l f.end stop)
+
+-- the ids behind the separators at the front
+abbrev pub rest : List ℕ → List ℕ
+rest l = drop (span true l) l
+
+-- where some are, they are the first face
+pub first_face : (l : List ℕ) → (span false (rest l) ≡ 0 → ⊥)
+    → faces l ≡ take (span false (rest l)) (rest l) ∷ faces (drop (span false (rest l)) (rest l))
+first_face l h =
+    sym (skip_faces l) ∙ run_face (rest l) ∙ lead-some _ _ (omega (arith, h, length-take-le _ (rest l) (span-le false (rest l))))
+
+-- where none are, there is no face
+pub no_face : (l : List ℕ) → span false (rest l) ≡ 0 → faces l ≡ []
+unfolding faces runs full
+no_face l h =
+    let all : length l ≤ span true l = omega (arith, span_all l h) in
+    sym (skip_faces l) ∙ rw (drop_of_length-le l all)
+
+-- the test of an entry, as the walk makes it
+test_agrees : (t b r : Bool) → not (beq b t) ≡ r → agree t b ≡ not r
+test_agrees true true r h = rw (← h)
+test_agrees true false r h = rw (← h)
+test_agrees false true r h = rw (← h)
+test_agrees false false r h = rw (← h)
+
+-- one step along the span at the front
+pub span_step : (separators : Bool) (l : List ℕ) (i : ℕ) (stops : Bool) → i < length l
+    → not (beq (eqb (get_or l i 0) separator) separators) ≡ stops
+    → span separators (drop i l) ≡ cond (not stops) (suc (span separators (drop (i + 1) l))) 0
+unfolding span
+span_step separators l i stops h e = simp (add-one, drop-cons l i 0 h, test_agrees _ _ _ e)
+
+pub span_end : (separators : Bool) (l : List ℕ) (i : ℕ) → length l ≤ i → span separators (drop i l) ≡ 0
+unfolding span
+span_end separators l i h = rw (drop_of_length-le l h)

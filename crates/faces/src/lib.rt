@@ -1,74 +1,56 @@
-// The faces of a PHED, read one after another from the caller's list.
+//! The faces of a PHED, read one after another from the caller's list.
 #![tactic(auto)]
 
-ghost use Rattle.std.specs.Prelude.{◌≡◌, ◌+◌, ◌≤◌, drop, length};
-ghost use Rattle.faces.specs.Inner.Walk.{agree, next_face, span};
+ghost use Rattle.std.specs.Prelude.{◌≡◌, false, length, true};
+ghost use Rattle.std.specs.Iterator.{YieldsFirstRef, item_count};
+ghost use Rattle.faces.specs.Faces.{faces};
+ghost use Rattle.faces.specs.Inner.Walk.{left, span};
 
 use base::kinds::Kind;
 
-// Where a face stands in the list: from start up to, and not with, end. Equal numbers are no face.
-#[derive(Drop)]
-pub struct Face {
-    pub start: usize,
-    pub end: usize,
-}
-
-// A reader of the faces that remembers its place.
-#[derive(Drop)]
+/// The faces that are left in a list, each a part of it.
+#[derive(Clone, Copy)]
 pub struct Faces<'a> {
     pub ids: &'a [u64],
-    pub at: usize,
 }
 
-// A reader at a place of the list.
-pub fn place<'a>(ids: &'a [u64], at: usize) -> Faces<'a>
-    ensures { (result.ids ≡ ids.entry) × (result.at ≡ at) }
-{
-    Faces { ids, at }
+impl<'a> Faces<'a> {
+    pub fn of(ids: &'a [u64]) -> Faces<'a>
+        ensures { left result ≡ faces ids.entry.now }
+    {
+        Faces { ids }
+    }
 }
 
-// The face that the reader meets next.
-pub fn next<'a>(reader: Faces<'a>) -> Face
-    ensures { result ≡ next_face reader.entry.ids.now reader.entry.at }
-{
-    face_at(reader.ids, reader.at)
+impl<'a> Iterator for Faces<'a> {
+    type Item = &'a [u64];
+
+    ghost next_gives = { YieldsFirstRef left };
+
+    ghost remaining = { item_count left };
+
+    fn next(&mut self) -> Option<&'a [u64]> {
+        let start = run(self.ids, true);
+        let (_, rest) = self.ids.split_at(start);
+        let end = run(rest, false);
+        if end == 0 {
+            return None;
+        }
+        let (face, after) = rest.split_at(end);
+        self.ids = after;
+        Some(face)
+    }
 }
 
-// The next face at or after a place, for callers with a plain list: reading on at its end gives the
-// faces one after another.
-pub fn next_face(ids: &[u64], at: usize) -> Face
-    ensures { result ≡ next_face ids.now at }
+/// How many separators, or else how many ids, stand at the front. A flag says which: a closure for each would
+/// stand in place of one word.
+fn run(ids: &[u64], separators: bool) -> usize
+    ensures { result ≡ span separators ids.now }
 {
-    next(place(ids, at))
-}
-
-// What the reader does: the next face at or after a place of a list.
-fn face_at(ids: &[u64], at: usize) -> Face
-    ensures { result ≡ next_face ids.now at }
-{
-    let start = past(ids, at, true);
-    let end = past(ids, start, false);
-    Face { start, end }
-}
-
-// Where the separators, or else the ids, that stand from a place on end.
-fn past(ids: &[u64], at: usize, separators: bool) -> usize
-    ensures { result ≡ at + span separators (drop at ids.now) }
-{
-    let mut i = at;
-    while i < ids.len() {
-        if agrees(separators, ids[i] == Kind::SEPARATOR) {
-            i += 1;
-        } else {
+    for (i, id) in ids.iter().enumerate() {
+        if (*id == Kind::SEPARATOR) != separators {
             return i;
         }
     }
-    i
-}
-
-// Whether a test came out as it was wanted.
-fn agrees(wanted: bool, test: bool) -> bool
-    ensures { result ≡ agree wanted test }
-{
-    if wanted { test } else { !test }
+    ids.len()
 }

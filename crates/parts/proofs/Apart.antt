@@ -1,13 +1,17 @@
--- Laws of faces written one after another: what is left of the whole shrinks by the face that is written.
+-- Laws of faces written one after another: how many there are, and that what is left of the whole shrinks by the face that is written.
 use mathlib.Core.Path.{◌≡◌, refl, sym, ap, ◌∙◌}
 use mathlib.Core.List.{List, [], ◌∷◌, ◌++◌, flatten, append_assoc}
 use Prim.Native.Nat.{ℕ, suc, ◌+◌, ◌≤◌}
 use native.Mathlib.Nat.{add-zero}
 use native.Mathlib.Omega.{arith}
+use mathlib.Core.Bool.{Bool, true, false}
+use lib.Dec.{eqb}
 use lib.ListN.{length, get_or, take, drop, length-append, length-drop}
 use lib.Seq.{take_at, drop_at, take-append_seam, drop-append_seam, drop-drop, take-add, get_or-drop, length-take-le}
 use Rattle.base.specs.Outcome.{overwrite}
+use Rattle.base.specs.Kinds.{separator}
 use Rattle.base.proofs.Lists.{front_whole}
+use Rattle.faces.specs.Faces.{onto, runs, lead, full, faces}
 use Rattle.parts.specs.Subentities.{ends_from}
 
 -- whole is all that is to be written, n of it is there, and what is left begins with p
@@ -48,3 +52,31 @@ length_ends n (f ∷ fs) = ap suc (length_ends (n + length f) fs)
 pub length_flatten : (f : List ℕ) (fs : List (List ℕ)) → length (flatten (f ∷ fs)) ≡ length f + length (flatten fs)
 unfolding flatten
 length_flatten f fs = length-append f (flatten fs)
+
+length_lead : (f : List ℕ) (fs : List (List ℕ)) → length (flatten (lead f fs)) ≡ length f + length (flatten fs)
+length_lead [] fs = omega arith
+length_lead (x ∷ f) fs = length_flatten (x ∷ f) fs
+
+lead_le : (f : List ℕ) (fs : List (List ℕ)) → length (lead f fs) ≤ length f + length fs
+lead_le [] fs = omega arith
+lead_le (x ∷ f) fs = omega arith
+
+-- the faces of a list have no more entries than the list, and there are no more of them
+runs_few : (l : List ℕ) → (length (runs l).first + length (flatten (full (runs l).rest)) ≤ length l)
+    × (length (runs l).first + length (full (runs l).rest) ≤ length l)
+unfolding runs full flatten
+runs_few [] = (omega arith, omega arith)
+runs_few (x ∷ l) = go (eqb x separator) (runs_few l)
+  where
+    go : (b : Bool)
+        → (length (runs l).first + length (flatten (full (runs l).rest)) ≤ length l) × (length (runs l).first + length (full (runs l).rest) ≤ length l)
+        → (length (onto b x (runs l)).first + length (flatten (full (onto b x (runs l)).rest)) ≤ suc (length l))
+        × (length (onto b x (runs l)).first + length (full (onto b x (runs l)).rest) ≤ suc (length l))
+    go true h = (omega (arith, length_lead (runs l).first (full (runs l).rest)), omega (arith, lead_le (runs l).first (full (runs l).rest)))
+    go false h = (omega arith, omega arith)
+
+pub faces_few : (l : List ℕ) → (length (flatten (faces l)) ≤ length l) × (length (faces l) ≤ length l)
+unfolding faces
+faces_few l =
+    let h = runs_few l in
+    (omega (arith, length_lead (runs l).first (full (runs l).rest)), omega (arith, lead_le (runs l).first (full (runs l).rest)))

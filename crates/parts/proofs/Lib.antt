@@ -1,8 +1,8 @@
 -- The laws behind sub-entities and poly forms.
-pub mod Tables
 pub mod PolyFaces
 pub mod PolyEdges
-pub mod Halves
+pub mod Codims
+mod Answered
 mod Fitting
 mod Sides
 mod Apart

@@ -37,3 +37,6 @@ pub two_more : (xs out : List ℕ) (k : ℕ) → k + 1 < length xs → k + 1 < l
     → set (set (take k xs ++ drop k out) k (get_or xs k 0)) (k + 1) (get_or xs (k + 1) 0) ≡ take (k + 1 + 1) xs ++ drop (k + 1 + 1) out
 two_more xs out k h l =
     rw (front_more xs out k (omega arith) (omega arith)) (front_more xs out (k + 1) h l)
+
+-- n nodes have n sides, of two ends each
+pub ruleset side_lengths = length-sides

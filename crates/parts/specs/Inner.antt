@@ -1,3 +1,5 @@
 -- What the contracts of inner functions cite; no operation's contract needs it to be read.
 pub mod Fit
 pub mod Lent
+pub mod Room
+pub mod Answers

@@ -1,5 +1,5 @@
 -- The sub-entities of an element, and what `subentities` answers (document 01, 'Sub-entities').
-use Rattle.std.specs.Prelude.{ℕ, ◌+◌, cond, ◌&&◌, ◌||◌, eqb, leb, ltb, length}
+use Rattle.std.specs.Prelude.{ℕ, ◌+◌, cond, ◌&&◌, ◌||◌, eqb, leb, ltb, length, Option, Some, None}
 use mathlib.Core.List.{List, [], ◌∷◌, flatten}
 use Rattle.base.specs.Checks.{element_refusal}
 use Rattle.base.specs.Gather.{pick}
@@ -7,13 +7,11 @@ use Rattle.base.specs.Outcome.{Outcome, or_else, settle_two}
 use Rattle.faces.specs.Faces.{faces}
 use Rattle.faces.specs.Edges.{Edge, cycle}
 use Rattle.parts.specs.Tables.{table_of, parts_of, kind_at, count_at, corners_of}
-use Rattle.parts.specs.declared.subentities.Codimension.{Codimension}
-use Rattle.parts.specs.declared.subentities.Codimension.TheVariants.{Absent, Of}
 use Rattle.parts.specs.declared.subentities.Parts.{Parts}
 
-abbrev pub codim_of : Codimension → ℕ
-codim_of Absent = 1
-codim_of (Of codim) = codim
+abbrev pub codim_of : Option ℕ → ℕ
+codim_of None = 1
+codim_of (Some codim) = codim
 
 -- the last codimension in a kind's table: PGON has vertices and sides, PHED faces; 0 for a kind without a table
 unfoldable pub depth : ℕ → ℕ
@@ -84,7 +82,7 @@ abbrev pub given_parts : Entities → Parts
 given_parts e = record { refusal = 0; kind = e.kind; count = e.count; kind2 = e.kind2; count2 = e.count2 }
 
 -- what the operation answers, and what the two lent slices then hold
-unfoldable pub subentities_outcome : ℕ → Codimension → List ℕ → List ℕ × List ℕ → Outcome Parts (List ℕ × List ℕ)
+unfoldable pub subentities_outcome : ℕ → Option ℕ → List ℕ → List ℕ × List ℕ → Outcome Parts (List ℕ × List ℕ)
 subentities_outcome kind codim ids lent =
     let e = entities kind (codim_of codim) ids in
     settle_two refused_parts (subentities_refusal kind (codim_of codim) ids) (given_parts e) e.ids e.ends lent

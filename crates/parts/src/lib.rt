@@ -1,4 +1,4 @@
-// The parts of an element: its sub-entities by codimension, and its poly form.
+//! The parts of an element: its sub-entities by codimension, and its poly form.
 #![tactic(auto)]
 
 mod gather;

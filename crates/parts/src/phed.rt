@@ -1,73 +1,64 @@
-// The faces of a polyhedron, written one after another with where each ends.
-ghost use Rattle.std.specs.Prelude.{◌≡◌, ◌+◌, ◌<◌, ◌≤◌, drop, length, set, take};
-ghost use mathlib.Core.List.{◌++◌, flatten};
-ghost use Rattle.base.specs.Outcome.{overwrite};
+//! The faces of a polyhedron, written one after another with where each ends.
+ghost use Rattle.std.specs.Prelude.{◌≡◌, ◌≤◌, length};
+ghost use mathlib.Core.List.{flatten};
+ghost use Rattle.base.specs.Outcome.{Permits, overwrite};
 ghost use Rattle.faces.specs.Faces.{faces};
-ghost use Rattle.parts.specs.Subentities.{ends_from};
+ghost use Rattle.parts.specs.Inner.Lent.{to_both};
+ghost use Rattle.parts.specs.Subentities.{ends_from, phed_parts};
+ghost use Rattle.parts.specs.Inner.Answers.{parts_answer_of};
 
+use super::subentities::Written;
+use base::kinds::Kind;
 use base::lent::copy;
-use faces::next_face;
+use base::refusals::Refusal;
+use faces::Faces;
 
-// How many faces there are, and how many entries they have together.
-#[derive(Drop)]
-pub struct Tally {
-    pub faces: usize,
-    pub entries: usize,
+/// The faces of a polyhedron, with where each ends.
+#[tactic(auto, using(crate::proofs::Apart::length_ends), unfolding(base::specs::Outcome::settle_two, base::specs::Outcome::decide))]
+#[inline(always)]
+pub fn phed_parts(ids: &[u64], out: &mut [u64], ends: &mut [u64]) -> Result<Written, Refusal>
+    ensures { Permits (to_both (phed_parts ids.now) (out.old, ends.old)) (parts_answer_of result) (out.new, ends.new) }
+{
+    let tally = tally_faces(ids);
+    if out.len() < tally.entries || ends.len() < tally.faces {
+        return Err(Refusal::ShortOutput);
+    }
+    write_faces(ids, out, ends);
+    Ok(Written::alike(Kind::Pgon, tally.faces))
 }
 
-pub fn tally_faces(ids: &[u64]) -> Tally
+/// How many faces there are, and how many entries they have together.
+#[derive(Clone, Copy)]
+struct Tally {
+    faces: usize,
+    entries: usize,
+}
+
+fn tally_faces(ids: &[u64]) -> Tally
     ensures { (result.faces ≡ length (faces ids.now)) × (result.entries ≡ length (flatten (faces ids.now))) }
 {
-    let mut faces = 0;
-    let mut entries = 0;
-    let mut at = 0;
-    while at < ids.len() {
-        let face = next_face(ids, at);
-        let start = face.start;
-        let end = face.end;
-        if start == end {
-            return Tally { faces, entries };
-        }
-        faces += 1;
-        entries += end - start;
-        at = end;
+    let mut tally = Tally {
+        faces: 0,
+        entries: 0,
+    };
+    for face in Faces::of(ids) {
+        tally.faces += 1;
+        tally.entries += face.len();
     }
-    Tally { faces, entries }
+    tally
 }
 
-// The faces' entries over the front of out, and where each face ends over the front of ends.
-pub fn write_faces(ids: &[u64], out: &mut [u64], ends: &mut [u64])
+/// The faces' entries over the front of out, and where each face ends over the front of ends.
+fn write_faces(ids: &[u64], out: &mut [u64], ends: &mut [u64])
     requires ids_in_bounds { length (flatten (faces ids.now)) ≤ length out.old }
     requires ids_in_bounds_2 { length (faces ids.now) ≤ length ends.old }
     ensures out_after { out.new ≡ overwrite (flatten (faces ids.now)) out.old }
     ensures ends_after { ends.new ≡ overwrite (ends_from 0 (faces ids.now)) ends.old }
 {
     let mut written = 0;
-    let mut faces = 0;
-    let mut at = 0;
-    while at < ids.len() {
-        let face = next_face(ids, at);
-        let start = face.start;
-        let end = face.end;
-        if start == end {
-            return;
-        }
-        written = put_face(&ids[start..end], out, written, ends, faces);
-        faces += 1;
-        at = end;
+    for (at, face) in Faces::of(ids).enumerate() {
+        copy(face, &mut out[written..]);
+        written += face.len();
+        ends[at] = written as u64;
     }
-}
-
-// One face behind what is written, and its end; how much is written then.
-fn put_face(face: &[u64], out: &mut [u64], written: usize, ends: &mut [u64], at: usize) -> usize
-    requires face_in_bounds { written + length face.now ≤ length out.old }
-    requires at_in_bounds { at < length ends.old }
-    ensures value { result ≡ written + length face.now }
-    ensures out_after { out.new ≡ take written out.old ++ overwrite face.now (drop written out.old) }
-    ensures ends_after { ends.new ≡ set ends.old at (written + length face.now) }
-{
-    copy(face, &mut out[written..]);
-    let end = written + face.len();
-    ends[at] = end as u64;
-    end
 }

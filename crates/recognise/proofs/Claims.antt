@@ -22,6 +22,7 @@ use Rattle.shapes.specs.Wedge.{after, place_in_second, runs_in, wedge}
 use Rattle.recognise.specs.Claims.{fourth_or16, tet_or16, closed_triangles, FourthThere, NeverSixteen}
 use Rattle.recognise.specs.FromPoly.{from_poly, plain_kind, recognised}
 use Rattle.recognise.specs.Recognise.{from_faces, mixed, nodes_in, other_length, regular, tally}
+use Rattle.recognise.proofs.Nodes.{tally_most}
 use Rattle.recognise.proofs.Never.{Of, is_a, is_b, is_c, four, never}
 
 one_of : (a b c x : ℕ) → in_triangle a b c x ≡ true → Of a b c x
@@ -55,15 +56,6 @@ found a b c (x ∷ nodes) h = go (in_triangle a b c x) refl (found a b c nodes)
     go false e later = refl
 
 -- where as many faces have n nodes as there are faces, each has
-tally_most : (n : ℕ) (fs : List (List ℕ)) → tally n fs ≤ length fs
-unfolding tally
-tally_most n [] = omega arith
-tally_most n (f ∷ fs) = go (eqb (length f) n) (tally_most n fs)
-  where
-    go : (s : Bool) → tally n fs ≤ length fs → cond s 1 0 + tally n fs ≤ suc (length fs)
-    go true h = omega arith
-    go false h = omega arith
-
 tally_all : (n : ℕ) (f : List ℕ) (fs : List (List ℕ)) → tally n (f ∷ fs) ≡ suc (length fs)
     → (length f ≡ n) × (tally n fs ≡ length fs)
 unfolding tally

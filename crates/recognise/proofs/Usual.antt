@@ -8,17 +8,16 @@ use native.Mathlib.Omega.{arith}
 use lib.Dec.{eqb, ltb}
 use lib.ListN.{length, get_or, drop, drop_of_length-le, get_or-eq_default}
 use lib.Seq.{drop-cons}
-use borrow.Author.Tests.{eqb-true, eqb-false, ltb-true, ltb-false, not-true}
+use borrow.Author.Tests.{ne_eqb, eqb-true, eqb-false, ltb-true, ltb-false, not-true}
 use Rattle.base.specs.Gather.{pick}
 use Rattle.base.specs.Kinds.{separator}
 use Rattle.base.proofs.Tests.{and-true}
 use Rattle.faces.specs.Edges.{along, edges}
 use Rattle.faces.specs.Faces.{faces, full, runs}
-use Rattle.faces.proofs.Walk.{no_more}
 use Rattle.shapes.specs.Seek.{nth}
 use Rattle.shapes.specs.Wedge.{wedge}
 use Rattle.surfaces.specs.Inner.Numbers.{edges_by}
-use Rattle.recognise.specs.Inner.Laid.{is_node, tri_at, quad_at, laid_tet, laid_brick, laid_wedge, tet_nodes, brick_quads, wedge_tris, wedge_quads, closed_tet, closed_brick}
+use Rattle.recognise.specs.Inner.Laid.{is_node, face_at, laid_tet, laid_brick, laid_wedge, tet_nodes, brick_quads, wedge_tris, wedge_quads, closed_tet, closed_brick}
 use Rattle.recognise.specs.Recognise.{from_faces, from_phed, mixed, nodes_in, other_length, regular, tally}
 
 -- an entry that is a node is an entry of the list
@@ -48,114 +47,88 @@ ends_at l i j e h = go (ltb i (length l)) refl
         let m : length l ≤ j = omega arith in
         rw (drop_of_length-le l n, drop_of_length-le l m) (refl, refl)
 
-module _ (l : List ℕ) (at : ℕ) where
-  node_no : (i : ℕ) → is_node l i ≡ true → eqb (nth l i) separator ≡ false
-  node_no i e = not-true (eqb (nth l i) separator) e
+-- past the last entry there is no face
+no_more : (l : List ℕ) (i : ℕ) → length l ≤ i → faces (drop i l) ≡ []
+unfolding faces runs full
+no_more l i h = rw (drop_of_length-le l h)
 
-  pub tri_at_lem : tri_at l at ≡ true
-      → faces (drop at l) ≡ (nth l at ∷ nth l (at + 1) ∷ nth l (at + 2) ∷ []) ∷ faces (drop (at + 4) l)
-  unfolding faces runs
-  tri_at_lem e =
-      let a = and-true (is_node l at) _ e in
-      let b = and-true (is_node l (at + 1)) _ a.1 in
-      let c = and-true (is_node l (at + 2)) (eqb (nth l (at + 3)) separator) b.1 in
-      let z = ends_at l (at + 3) (at + 4) (eqb-true _ _ c.1) (omega arith) in
-      rw (
-        one_more l at (at + 1) a.0 refl,
-        one_more l (at + 1) (at + 2) b.0 (omega arith),
-        one_more l (at + 2) (at + 3) c.0 (omega arith),
-        node_no at a.0,
-        node_no (at + 1) b.0,
-        node_no (at + 2) c.0,
-        z.0,
-        z.1,
-      )
-
-  pub quad_at_lem : quad_at l at ≡ true
-      → faces (drop at l) ≡ (nth l at ∷ nth l (at + 1) ∷ nth l (at + 2) ∷ nth l (at + 3) ∷ []) ∷ faces (drop (at + 5) l)
-  unfolding faces runs
-  quad_at_lem e =
-      let a = and-true (is_node l at) _ e in
-      let b = and-true (is_node l (at + 1)) _ a.1 in
-      let c = and-true (is_node l (at + 2)) _ b.1 in
-      let d = and-true (is_node l (at + 3)) (eqb (nth l (at + 4)) separator) c.1 in
-      let z = ends_at l (at + 4) (at + 5) (eqb-true _ _ d.1) (omega arith) in
-      rw (
-        one_more l at (at + 1) a.0 refl,
-        one_more l (at + 1) (at + 2) b.0 (omega arith),
-        one_more l (at + 2) (at + 3) c.0 (omega arith),
-        one_more l (at + 3) (at + 4) d.0 (omega arith),
-        node_no at a.0,
-        node_no (at + 1) b.0,
-        node_no (at + 2) c.0,
-        node_no (at + 3) d.0,
-        z.0,
-        z.1,
-      )
-
--- the faces at known places
-abbrev tri : List ℕ → ℕ → List ℕ
-tri l at = nth l at ∷ nth l (at + 1) ∷ nth l (at + 2) ∷ []
-
-abbrev quad : List ℕ → ℕ → List ℕ
-quad l at = nth l at ∷ nth l (at + 1) ∷ nth l (at + 2) ∷ nth l (at + 3) ∷ []
+-- the n nodes from a place on
+abbrev part : ℕ → List ℕ → ℕ → List ℕ
+part zero l at = []
+part (suc n) l at = nth l at ∷ part n l (at + 1)
 
 module _ (l : List ℕ) where
-  tet-faces : laid_tet l ≡ true → faces l ≡ tri l 0 ∷ tri l 4 ∷ tri l 8 ∷ tri l 12 ∷ []
+  -- a face that stands at a place is the first run there
+  run_at : (n at : ℕ) → face_at n l at ≡ true
+      → ((runs (drop at l)).first ≡ part n l at) × (full (runs (drop at l)).rest ≡ faces (drop (at + n + 1) l))
+  unfolding runs
+  run_at zero at e = ends_at l at (at + 0 + 1) (eqb-true _ _ e) (omega arith)
+  run_at (suc n) at e =
+      let b = and-true (is_node l at) (face_at n l (at + 1)) e in
+      let r = run_at n (at + 1) b.1 in
+      let z : at + suc n + 1 ≡ at + 1 + n + 1 = omega arith in
+      rw (z, one_more l at (at + 1) b.0 refl, not-true (eqb (nth l at) separator) b.0, r.0, r.1) (refl, refl)
+
+  face_at_lem : (n at next : ℕ) → face_at (suc n) l at ≡ true → at + suc n + 1 ≡ next
+      → faces (drop at l) ≡ part (suc n) l at ∷ faces (drop next l)
+  unfolding faces
+  face_at_lem n at next e h = let r = run_at (suc n) at e in rw (r.0, r.1, h) refl
+
+  tet-faces : laid_tet l ≡ true → faces l ≡ part 3 l 0 ∷ part 3 l 4 ∷ part 3 l 8 ∷ part 3 l 12 ∷ []
   tet-faces e =
       let n = and-true (eqb (length l) 15) _ e in
-      let a = and-true (tri_at l 0) _ n.1 in
-      let b = and-true (tri_at l 4) _ a.1 in
-      let c = and-true (tri_at l 8) (tri_at l 12) b.1 in
+      let a = and-true (face_at 3 l 0) _ n.1 in
+      let b = and-true (face_at 3 l 4) _ a.1 in
+      let c = and-true (face_at 3 l 8) (face_at 3 l 12) b.1 in
       let long : length l ≤ 16 = omega (arith, eqb-true (length l) 15 n.0) in
-      tri_at_lem l 0 a.0
-      ∙ ap (λ (fs : List (List ℕ)). tri l 0 ∷ fs) (tri_at_lem l 4 b.0
-      ∙ ap (λ (fs : List (List ℕ)). tri l 4 ∷ fs) (tri_at_lem l 8 c.0
-      ∙ ap (λ (fs : List (List ℕ)). tri l 8 ∷ fs) (tri_at_lem l 12 c.1
-      ∙ ap (λ (fs : List (List ℕ)). tri l 12 ∷ fs) (no_more l 16 long))))
+      face_at_lem 2 0 4 a.0 refl
+      ∙ ap (λ (fs : List (List ℕ)). part 3 l 0 ∷ fs) (face_at_lem 2 4 8 b.0 refl
+      ∙ ap (λ (fs : List (List ℕ)). part 3 l 4 ∷ fs) (face_at_lem 2 8 12 c.0 refl
+      ∙ ap (λ (fs : List (List ℕ)). part 3 l 8 ∷ fs) (face_at_lem 2 12 16 c.1 refl
+      ∙ ap (λ (fs : List (List ℕ)). part 3 l 12 ∷ fs) (no_more l 16 long))))
 
-  brick-faces : laid_brick l ≡ true → faces l ≡ quad l 0 ∷ quad l 5 ∷ quad l 10 ∷ quad l 15 ∷ quad l 20 ∷ quad l 25 ∷ []
+  brick-faces : laid_brick l ≡ true → faces l ≡ part 4 l 0 ∷ part 4 l 5 ∷ part 4 l 10 ∷ part 4 l 15 ∷ part 4 l 20 ∷ part 4 l 25 ∷ []
   brick-faces e =
       let n = and-true (eqb (length l) 29) _ e in
-      let a = and-true (quad_at l 0) _ n.1 in
-      let b = and-true (quad_at l 5) _ a.1 in
-      let c = and-true (quad_at l 10) _ b.1 in
-      let d = and-true (quad_at l 15) _ c.1 in
-      let f = and-true (quad_at l 20) (quad_at l 25) d.1 in
+      let a = and-true (face_at 4 l 0) _ n.1 in
+      let b = and-true (face_at 4 l 5) _ a.1 in
+      let c = and-true (face_at 4 l 10) _ b.1 in
+      let d = and-true (face_at 4 l 15) _ c.1 in
+      let f = and-true (face_at 4 l 20) (face_at 4 l 25) d.1 in
       let long : length l ≤ 30 = omega (arith, eqb-true (length l) 29 n.0) in
-      quad_at_lem l 0 a.0
-      ∙ ap (λ (fs : List (List ℕ)). quad l 0 ∷ fs) (quad_at_lem l 5 b.0
-      ∙ ap (λ (fs : List (List ℕ)). quad l 5 ∷ fs) (quad_at_lem l 10 c.0
-      ∙ ap (λ (fs : List (List ℕ)). quad l 10 ∷ fs) (quad_at_lem l 15 d.0
-      ∙ ap (λ (fs : List (List ℕ)). quad l 15 ∷ fs) (quad_at_lem l 20 f.0
-      ∙ ap (λ (fs : List (List ℕ)). quad l 20 ∷ fs) (quad_at_lem l 25 f.1
-      ∙ ap (λ (fs : List (List ℕ)). quad l 25 ∷ fs) (no_more l 30 long))))))
+      face_at_lem 3 0 5 a.0 refl
+      ∙ ap (λ (fs : List (List ℕ)). part 4 l 0 ∷ fs) (face_at_lem 3 5 10 b.0 refl
+      ∙ ap (λ (fs : List (List ℕ)). part 4 l 5 ∷ fs) (face_at_lem 3 10 15 c.0 refl
+      ∙ ap (λ (fs : List (List ℕ)). part 4 l 10 ∷ fs) (face_at_lem 3 15 20 d.0 refl
+      ∙ ap (λ (fs : List (List ℕ)). part 4 l 15 ∷ fs) (face_at_lem 3 20 25 f.0 refl
+      ∙ ap (λ (fs : List (List ℕ)). part 4 l 20 ∷ fs) (face_at_lem 3 25 30 f.1 refl
+      ∙ ap (λ (fs : List (List ℕ)). part 4 l 25 ∷ fs) (no_more l 30 long))))))
 
-  wedge-faces : laid_wedge l ≡ true → faces l ≡ tri l 0 ∷ tri l 4 ∷ quad l 8 ∷ quad l 13 ∷ quad l 18 ∷ []
+  wedge-faces : laid_wedge l ≡ true → faces l ≡ part 3 l 0 ∷ part 3 l 4 ∷ part 4 l 8 ∷ part 4 l 13 ∷ part 4 l 18 ∷ []
   wedge-faces e =
       let n = and-true (eqb (length l) 22) _ e in
-      let a = and-true (tri_at l 0) _ n.1 in
-      let b = and-true (tri_at l 4) _ a.1 in
-      let c = and-true (quad_at l 8) _ b.1 in
-      let d = and-true (quad_at l 13) (quad_at l 18) c.1 in
+      let a = and-true (face_at 3 l 0) _ n.1 in
+      let b = and-true (face_at 3 l 4) _ a.1 in
+      let c = and-true (face_at 4 l 8) _ b.1 in
+      let d = and-true (face_at 4 l 13) (face_at 4 l 18) c.1 in
       let long : length l ≤ 23 = omega (arith, eqb-true (length l) 22 n.0) in
-      tri_at_lem l 0 a.0
-      ∙ ap (λ (fs : List (List ℕ)). tri l 0 ∷ fs) (tri_at_lem l 4 b.0
-      ∙ ap (λ (fs : List (List ℕ)). tri l 4 ∷ fs) (quad_at_lem l 8 c.0
-      ∙ ap (λ (fs : List (List ℕ)). quad l 8 ∷ fs) (quad_at_lem l 13 d.0
-      ∙ ap (λ (fs : List (List ℕ)). quad l 13 ∷ fs) (quad_at_lem l 18 d.1
-      ∙ ap (λ (fs : List (List ℕ)). quad l 18 ∷ fs) (no_more l 23 long)))))
+      face_at_lem 2 0 4 a.0 refl
+      ∙ ap (λ (fs : List (List ℕ)). part 3 l 0 ∷ fs) (face_at_lem 2 4 8 b.0 refl
+      ∙ ap (λ (fs : List (List ℕ)). part 3 l 4 ∷ fs) (face_at_lem 3 8 13 c.0 refl
+      ∙ ap (λ (fs : List (List ℕ)). part 4 l 8 ∷ fs) (face_at_lem 3 13 18 d.0 refl
+      ∙ ap (λ (fs : List (List ℕ)). part 4 l 13 ∷ fs) (face_at_lem 3 18 23 d.1 refl
+      ∙ ap (λ (fs : List (List ℕ)). part 4 l 18 ∷ fs) (no_more l 23 long)))))
 
   -- such faces make the cell that the nodes at their places make
-  tet_made : closed_tet (tet_nodes l) ≡ from_faces (tri l 0 ∷ tri l 4 ∷ tri l 8 ∷ tri l 12 ∷ [])
+  tet_made : closed_tet (tet_nodes l) ≡ from_faces (part 3 l 0 ∷ part 3 l 4 ∷ part 3 l 8 ∷ part 3 l 12 ∷ [])
   unfolding from_faces regular other_length tally nodes_in pick edges_by edges along
   tet_made = refl
 
-  brick_made : closed_brick (brick_quads l) ≡ from_faces (quad l 0 ∷ quad l 5 ∷ quad l 10 ∷ quad l 15 ∷ quad l 20 ∷ quad l 25 ∷ [])
+  brick_made : closed_brick (brick_quads l) ≡ from_faces (part 4 l 0 ∷ part 4 l 5 ∷ part 4 l 10 ∷ part 4 l 15 ∷ part 4 l 20 ∷ part 4 l 25 ∷ [])
   unfolding from_faces regular other_length tally nodes_in pick edges_by edges along
   brick_made = refl
 
-  wedge_made : wedge (wedge_tris l) (wedge_quads l) ≡ from_faces (tri l 0 ∷ tri l 4 ∷ quad l 8 ∷ quad l 13 ∷ quad l 18 ∷ [])
+  wedge_made : wedge (wedge_tris l) (wedge_quads l) ≡ from_faces (part 3 l 0 ∷ part 3 l 4 ∷ part 4 l 8 ∷ part 4 l 13 ∷ part 4 l 18 ∷ [])
   unfolding from_faces mixed other_length tally nodes_in pick
   wedge_made = refl
 
@@ -177,6 +150,13 @@ pub below : (n : ℕ) (list : List ℕ) → 0 < n → all_below n list ≡ true 
 below n [] h e i = h
 below n (x ∷ list) h e zero = ltb-true x n (and-true (ltb x n) (all_below n list) e).0
 below n (x ∷ list) h e (suc i) = below n list h (and-true (ltb x n) (all_below n list) e).1 i
+
+-- one node more of a face that stands at a place, or none
+pub face_more : (l : List ℕ) (i k m : ℕ) → k ≡ suc m → (nth l i ≡ separator → ⊥) → face_at k l i ≡ face_at m l (i + 1)
+face_more l i k m e n = rw (e, ne_eqb (nth l i) separator n) refl
+
+pub face-none : (l : List ℕ) (i k m : ℕ) → k ≡ suc m → nth l i ≡ separator → face_at k l i ≡ false
+face-none l i k m e n = rw (e, n) refl
 
 -- an array is the same as any that it equals entry by entry
 pub each : {x y : ℕ} {l m : List ℕ} → x ≡ y → l ≡ m → x ∷ l ≡ y ∷ m

@@ -1,17 +1,17 @@
 -- Laws of numbers as digits: how many there are, how they are spelled, and that they stand for the number.
 use mathlib.Core.Path.{◌≡◌, refl, ap}
 use Prim.Native.Nat.{ℕ, zero, suc, ◌+◌, ◌-◌, ◌*◌, ◌/◌, ◌%◌, ◌^◌, ◌<◌, ◌≤◌}
-use native.Mathlib.Nat.{pow-succ', one-le-pow, pow-le-pow_right, lt_of_not-le, le_of_suc-le-suc, not-suc-le-zero}
+use native.Mathlib.Nat.{pow-succ', one-le-pow, le_of_suc-le-suc, not-suc-le-zero}
 use native.Mathlib.Omega.{arith}
-use mathlib.Core.List.{List, [], ◌∷◌, ◌++◌, map-append}
+use mathlib.Core.List.{List, [], ◌∷◌, ◌++◌, map-append, append_assoc}
+use Rattle.std.proofs.lemmas.List.{drop-set}
+use native.Mathlib.Numerals.{add-one}
 use lib.Dec.{ltb}
-use lib.ListN.{length, set, length-append}
+use lib.ListN.{length, set, drop, length-append}
 use borrow.Author.Tests.{lt-ltb, le-ltb, ltb-true}
 use Rattle.base.specs.Gather.{digits}
-use Rattle.base.specs.Inner.Place.{put_at}
 use Rattle.records.specs.Text.{places_in, places, spelled, decimal}
 use Rattle.records.proofs.Tests.{by_test}
-use Rattle.records.proofs.Places.{put_last}
 
 -- a number that reaches the power of ten `k` and not the next has k + 1 digits
 places_in_lem : (f k n : ℕ) → k < f → (0 < k → 10 ^ k ≤ n) → n < 10 ^ suc k → places_in f n ≡ suc k
@@ -30,11 +30,6 @@ pub places-by_power : (k n : ℕ) → k < 20 → (0 < k → 10 ^ k ≤ n) → n 
 unfolding places
 places-by_power k n h low high = places_in_lem 20 k n h low high
 
--- a power of ten that a number of 64 bits reaches is below the twentieth
-pub power_below : (k : ℕ) → 10 ^ k ≤ 18446744073709551615 → k < 20
-power_below k h =
-    lt_of_not-le (λ (l : 20 ≤ k). let p : 10 ^ 20 ≤ 10 ^ k = pow-le-pow_right (omega arith) l in omega arith)
-
 pub spelled_more : (k n : ℕ) → spelled (suc k) n ≡ spelled k (n / 10) ++ ((48 + n % 10) ∷ [])
 unfolding spelled
 spelled_more k n = map-append _ (digits k (n / 10)) _
@@ -45,12 +40,9 @@ length-spelled zero n = refl
 length-spelled (suc k) n = rw (spelled_more, length-append (spelled k (n / 10)), length-spelled k (n / 10)) (omega arith)
 
 -- a turn of the loop that spells a number from its last digit on
-pub spell_turn : (k n : ℕ) (out : List ℕ) (at : ℕ) → at + k < length out
-    → put_at (spelled k (n / 10)) at (set out (at + k) (48 + n % 10)) ≡ put_at (spelled (suc k) n) at out
-spell_turn k n out at h =
-    let e = length-spelled k (n / 10) in
-    let l : at + length (spelled k (n / 10)) < length out = rw e h in
-    rw (spelled_more k n) (rw e at (put_last (48 + n % 10) (spelled k (n / 10)) out at l))
+pub spell_turn : (k n : ℕ) (out : List ℕ) → k < length out
+    → spelled k (n / 10) ++ drop k (set out k (48 + n % 10)) ≡ spelled (suc k) n ++ drop (suc k) out
+spell_turn k n out h = rw (spelled_more k n, drop-set out k (48 + n % 10) h, append_assoc, add-one)
 
 -- the number that digits stand for
 abbrev pub value : ℕ → List ℕ → ℕ

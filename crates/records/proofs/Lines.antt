@@ -1,13 +1,15 @@
 -- Laws of lines: what one number more, and one simplex more, add to the text.
 use mathlib.Core.Path.{◌≡◌, refl}
-use Prim.Native.Nat.{ℕ, ◌+◌, ◌*◌, ◌<◌, ◌≤◌}
-use native.Mathlib.Nat.{mul-le-mul_right, suc-mul}
+use Prim.Native.Nat.{ℕ, zero, suc, ◌+◌, ◌*◌, ◌<◌}
 use native.Mathlib.Omega.{arith}
 use native.Mathlib.Numerals.{add-one}
 use mathlib.Core.List.{List, [], ◌∷◌, ◌++◌, append_assoc, append-nil}
 use lib.ListN.{length, get_or, take, drop}
 use lib.Seq.{take-suc}
+use borrow.Author.Tests.{ne_eqb}
+use Rattle.std.specs.Option.{unwrap_or}
 use Rattle.base.specs.Kinds.{nodes_of}
+use Rattle.base.specs.Inner.Numbers.{some_unless_zero}
 use Rattle.records.specs.Text.{blank, decimal, spaced, line, simplex_lines}
 
 spaced-append : (xs ys : List ℕ) → spaced (xs ++ ys) ≡ spaced xs ++ spaced ys
@@ -29,8 +31,7 @@ pub simplexes_more : (kind : ℕ) (ids : List ℕ) (k : ℕ)
 unfolding simplex_lines
 simplexes_more kind ids k = rw add-one
 
--- where a simplex of several stands among the ids, all of its nodes do
-pub nodes_within : (i count nodes size : ℕ) → i < count → count * nodes ≤ size → i * nodes + nodes ≤ size
-nodes_within i count nodes size h l =
-    let m = mul-le-mul_right nodes h in
-    omega (arith, suc-mul i nodes)
+-- a count that the paper writes as 0 for none, and the library as an option
+pub unless_zero : (n : ℕ) → unwrap_or (some_unless_zero n) 0 ≡ n
+unless_zero zero = refl
+unless_zero (suc n) = simp (ne_eqb (suc n) 0 (omega arith))

@@ -1,15 +1,16 @@
--- Laws of bytes put at a place: in which order they are put does not matter.
+-- Laws of bytes put at a place, and of texts that are written one behind the other.
 use mathlib.Core.Path.{◌≡◌, refl, sym, ◌∙◌}
-use Prim.Native.Nat.{ℕ, suc, ◌+◌, ◌<◌, ◌≤◌}
+use Prim.Native.Nat.{ℕ, ◌+◌, ◌≤◌}
 use native.Mathlib.Nat.{add-zero}
-use native.Mathlib.Numerals.{add-one}
 use native.Mathlib.Omega.{arith}
-use mathlib.Core.List.{List, [], ◌∷◌, ◌++◌, append_assoc}
-use lib.ListN.{length, take, drop, set, length-append, take-append-drop}
-use lib.Seq.{take_at, drop_at, drop-drop, set_split, length-take-le, take-set-le}
+use mathlib.Core.List.{List, [], ◌++◌, append_assoc}
+use borrow.Rule.Slice.PartMut.{put_mid}
+use lib.ListN.{length, take, length-append, length-drop, take-append-drop}
+use lib.Seq.{take_at, drop_at, drop-drop, length-take-le}
 use Rattle.base.specs.Outcome.{overwrite}
 use Rattle.base.specs.Inner.Place.{put_at}
-use Rattle.records.specs.Inner.Place.{Written}
+use Rattle.records.specs.Inner.Writer.{Wrote}
+use Rattle.records.specs.declared.text.Writer.{Writer}
 
 pub put_none : (at : ℕ) (out : List ℕ) → put_at [] at out ≡ out
 unfolding put_at overwrite
@@ -31,39 +32,32 @@ put_more xs ys out at h =
       append_assoc,
     )
 
--- one byte
-pub put_byte : (b at : ℕ) (out : List ℕ) → at < length out → put_at (b ∷ []) at out ≡ set out at b
+-- a part of a list that is written over
+pub put_part : (xs out : List ℕ) (at n : ℕ) → length xs ≡ n → put_mid at n out xs ≡ put_at xs at out
 unfolding put_at overwrite
-put_byte b at out h = rw (drop-drop, set_split out at b h, add-one)
+put_part xs out at n e = rw e
 
--- a first byte, and the others behind it
-pub put_first : (b : ℕ) (xs out : List ℕ) (at : ℕ) → at < length out
-    → put_at xs (at + 1) (set out at b) ≡ put_at (b ∷ xs) at out
-put_first b xs out at h = rw (← put_byte b at out h) (put_more (b ∷ []) xs out at (omega arith))
-
--- a last byte, and the others before it
-pub put_last : (b : ℕ) (xs out : List ℕ) (at : ℕ) → at + length xs < length out
-    → put_at xs at (set out (at + length xs) b) ≡ put_at (xs ++ (b ∷ [])) at out
-unfolding put_at overwrite
-put_last b xs out at h =
-    let e : drop (at + length xs) (set out (at + length xs) b) ≡ b ∷ drop (suc (at + length xs)) out =
-    rw (set_split out (at + length xs) b h, drop_at (take (at + length xs) out) _ _ (length-take-le (at + length xs) out (omega arith))) in
-    let n : at + (length xs + 1) ≡ suc (at + length xs) = omega arith in
-    rw (take-set-le at out (at + length xs) b (omega arith), drop-drop, e, drop-drop, length-append, append_assoc, n)
+pub length-put_part : (xs out : List ℕ) (at n : ℕ) → length xs ≡ n → at + n ≤ length out → length (put_mid at n out xs) ≡ length out
+length-put_part xs out at n e h =
+    rw (length-append, length-append, length-drop, length-drop, length-take-le at out (omega arith)) (omega arith)
 
 -- no text
-pub written_none : (at : ℕ) (out : List ℕ) → Written [] at out at out
-written_none at out = record { left = sym (put_none at out); behind = sym (add-zero at) }
+pub wrote_none : (writer : Writer) → Wrote [] 0 writer writer
+wrote_none writer =
+    record { left = sym (put_none writer.at writer.out.now); behind = sym (add-zero writer.at); few = omega arith; long = refl; same = refl }
 
--- one byte
-pub written_byte : (b at : ℕ) (out : List ℕ) → at < length out → Written (b ∷ []) at out (at + 1) (set out at b)
-written_byte b at out h = record { left = sym (put_byte b at out h); behind = refl }
+-- a text of fewer bytes than are allowed
+pub wrote_within : (text : List ℕ) (m most : ℕ) (before after : Writer) → m ≤ most → Wrote text m before after → Wrote text most before after
+wrote_within text m most before after h w = record { left = w.left; behind = w.behind; few = omega (arith, w.few); long = w.long; same = w.same }
 
 -- a text and a further text behind it are one text
-pub written_more : (xs ys out after last : List ℕ) (at next end : ℕ) → at ≤ length out
-    → Written xs at out next after → Written ys next after end last → Written (xs ++ ys) at out end last
-written_more xs ys out after last at next end h v w =
+pub wrote_more : (xs ys : List ℕ) (m n most : ℕ) (before mid after : Writer) → before.at ≤ length before.out.now → m + n ≤ most
+    → Wrote xs m before mid → Wrote ys n mid after → Wrote (xs ++ ys) most before after
+wrote_more xs ys m n most before mid after h k v w =
     record {
-      left = w.left ∙ rw (v.left, v.behind) (put_more xs ys out at h);
+      left = w.left ∙ rw (v.left, v.behind) (put_more xs ys before.out.now before.at h);
       behind = rw length-append (omega (arith, v.behind, w.behind));
+      few = omega (arith, v.few, w.few);
+      long = w.long ∙ v.long;
+      same = w.same ∙ v.same;
     }

@@ -1,5 +1,5 @@
-// Records of the splitting program: ids as bytes, a record at a place in bytes, and the text of an
-// answer.
+//! Records of the splitting program: ids as bytes, a record at a place in bytes, and the text of an
+//! answer.
 #![tactic(auto)]
 
 pub mod frame;

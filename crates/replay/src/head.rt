@@ -1,65 +1,79 @@
-// The head of a stored call: sixteen 2-byte numbers, of which the last four say nothing to it.
-ghost use Rattle.std.specs.Prelude.{◌+◌, ◌≤◌};
-ghost use Rattle.replay.specs.Inner.Stored.{Fits};
+//! The head of a stored call: sixteen 2-byte numbers, of which the last four say nothing to it.
+ghost use Rattle.std.specs.Prelude.{◌≤◌};
 
+use super::call::Operation;
 use super::words::LONGEST;
 use parts::subentities::Parts;
-use records::wire::two_at;
 
 #[derive(Clone, Copy)]
 pub struct Head {
-    // 1 to 7, or 0 for no operation.
-    pub operation: usize,
+    pub operation: Option<Operation>,
     pub kind: u64,
-    // The codimension or the dimension, where there is one.
+    /// The codimension or the dimension, where there is one. What is stored is passed as it is: a number that is no kind
+    /// or no dimension is a call too.
     pub parameter: u64,
-    // How many of each follow.
+    /// How many of each follow.
     pub ids: usize,
     pub points: usize,
     pub out: usize,
     pub ends: usize,
     pub answer: Parts,
+    ghost short: { (ids ≤ 4200) × (points ≤ 4200) × (out ≤ 4200) × (ends ≤ 4200) },
 }
 
-pub fn head_of(bytes: &[u8; 32]) -> Head
-    ensures { Fits result }
+impl Head {
+    pub fn of(bytes: &[u8; 32]) -> Head {
+        let [
+            operation,
+            kind,
+            parameter,
+            ids,
+            points,
+            out,
+            ends,
+            refusal,
+            first_kind,
+            first_count,
+            second_kind,
+            second_count,
+            _,
+            _,
+            _,
+            _,
+        ] = numbers(bytes);
+        Head {
+            operation: Operation::try_from(operation).ok(),
+            kind: u64::from(kind),
+            parameter: u64::from(parameter),
+            ids: length_of(ids),
+            points: length_of(points),
+            out: length_of(out),
+            ends: length_of(ends),
+            answer: Parts {
+                refusal: u64::from(refusal),
+                kind: u64::from(first_kind),
+                count: u64::from(first_count),
+                kind2: u64::from(second_kind),
+                count2: u64::from(second_count),
+            },
+        }
+    }
+}
+
+fn numbers(bytes: &[u8; 32]) -> [u16; 16] {
+    let mut numbers = [0u16; 16];
+    let (pairs, _) = bytes.as_chunks::<2>();
+    for (number, pair) in numbers.iter_mut().zip(pairs) {
+        *number = u16::from_le_bytes(*pair);
+    }
+    numbers
+}
+
+/// The length of a stored list, or 0 if it is above the limit.
+/// Such a head is counted and compared with an empty list: an `Option` would want a way of its own there, which is no plainer.
+fn length_of(number: u16) -> usize
+    ensures { result ≤ 4200 }
 {
-    let operation = at_most(7, bytes, 0);
-    let ids = at_most(LONGEST, bytes, 6);
-    let points = at_most(LONGEST, bytes, 8);
-    let out = at_most(LONGEST, bytes, 10);
-    let ends = at_most(LONGEST, bytes, 12);
-    let answer = stored_answer(bytes);
-    Head {
-        operation,
-        kind: two_at(bytes, 2),
-        parameter: two_at(bytes, 4),
-        ids,
-        points,
-        out,
-        ends,
-        answer,
-    }
-}
-
-fn stored_answer(bytes: &[u8; 32]) -> Parts {
-    Parts {
-        refusal: two_at(bytes, 14),
-        kind: two_at(bytes, 16),
-        count: two_at(bytes, 18),
-        kind2: two_at(bytes, 20),
-        count2: two_at(bytes, 22),
-    }
-}
-
-// The number at a place, or 0 if it is above a limit.
-fn at_most(limit: usize, bytes: &[u8; 32], at: usize) -> usize
-    requires { at + 2 ≤ 32 }
-    ensures { result ≤ limit }
-{
-    let number = two_at(bytes, at) as usize;
-    if number <= limit {
-        return number;
-    }
-    0
+    let length = usize::from(number);
+    if length <= LONGEST { length } else { 0 }
 }

@@ -1,3 +1,3 @@
--- The laws behind the cells that faces make: searches, and what is returned.
+-- The laws behind the cells that faces make: searches, and what they lead to.
 pub mod Seeks
-pub mod Found
+pub mod Sought

@@ -1,9 +1,15 @@
 -- Six quads, their nodes one after another, as a HEX8. Quad 0 is the bottom.
 use Rattle.std.specs.Prelude.{ℕ, ◌+◌, List, [], ◌∷◌, Bool, cond, not, ◌&&◌, ◌||◌, eqb}
 use Rattle.faces.specs.Edges.{edge, same}
-use Rattle.shapes.specs.declared.brick.Sides.{Sides}
 use Rattle.shapes.specs.Cells.{Cell, cell, none}
 use Rattle.shapes.specs.Seek.{seek, corner}
+
+-- the side face at each of the four bottom edges
+pub record Sides : Type 0 where
+  pub first : ℕ
+  pub second : ℕ
+  pub third : ℕ
+  pub fourth : ℕ
 
 -- x is a node of the bottom
 abbrev pub in_bottom : List ℕ → ℕ → Bool

@@ -1,61 +1,38 @@
-// A recognised cell, or the refusal, returned by value.
-ghost use Rattle.std.specs.Prelude.{[], ◌∷◌};
-ghost use Rattle.shapes.specs.Cells.{cell, none};
-ghost use Rattle.shapes.specs.Inner.Holds.{Holds};
+//! A recognised cell.
+ghost use Rattle.std.specs.Prelude.{◌≡◌};
+ghost use Rattle.base.specs.Inner.Numbers.{number_of};
+ghost use Rattle.shapes.specs.Inner.Made.{kind_of, nodes_of};
 
 use base::kinds::Kind;
 
-// The nodes stand at the front of ids; the entries behind them are 0.
-#[derive(Drop)]
-pub struct Found {
-    pub refusal: u64,
-    pub kind: u64,
-    pub count: usize,
-    pub ids: [u64; 8],
+/// A cell of one of the kinds that fill space, with its nodes.
+#[derive(Clone, Copy, Debug, PartialEq, Eq)]
+pub enum Cell {
+    Tet4([u64; Kind::TET4_NODES]),
+    Wedge6([u64; Kind::WEDGE6_NODES]),
+    Hex8([u64; Kind::HEX8_NODES]),
 }
 
-impl Found {
-    pub fn refused(refusal: u64) -> Found
-        ensures { Holds (none refusal) result }
+impl Cell {
+    /// The kind of the cell.
+    pub fn kind(&self) -> Kind
+        ensures { number_of result ≡ kind_of self.now }
     {
-        Found {
-            refusal,
-            kind: 0,
-            count: 0,
-            ids: [0, 0, 0, 0, 0, 0, 0, 0],
+        match self {
+            Cell::Tet4(_) => Kind::Tet4,
+            Cell::Wedge6(_) => Kind::Wedge6,
+            Cell::Hex8(_) => Kind::Hex8,
         }
     }
 
-    pub fn tet4(a: u64, b: u64, c: u64, d: u64) -> Found
-        ensures { Holds (cell 11 (a ∷ b ∷ c ∷ d ∷ [])) result }
+    /// Its nodes, as many as the kind has.
+    pub fn nodes(&self) -> &[u64]
+        ensures { result.now ≡ nodes_of self.now }
     {
-        Found {
-            refusal: 0,
-            kind: Kind::TET4,
-            count: Kind::TET4_NODES,
-            ids: [a, b, c, d, 0, 0, 0, 0],
-        }
-    }
-
-    pub fn wedge6(a: u64, b: u64, c: u64, d: u64, e: u64, f: u64) -> Found
-        ensures { Holds (cell 13 (a ∷ b ∷ c ∷ d ∷ e ∷ f ∷ [])) result }
-    {
-        Found {
-            refusal: 0,
-            kind: Kind::WEDGE6,
-            count: Kind::WEDGE6_NODES,
-            ids: [a, b, c, d, e, f, 0, 0],
-        }
-    }
-
-    pub fn hex8(a: u64, b: u64, c: u64, d: u64, e: u64, f: u64, g: u64, h: u64) -> Found
-        ensures { Holds (cell 15 (a ∷ b ∷ c ∷ d ∷ e ∷ f ∷ g ∷ h ∷ [])) result }
-    {
-        Found {
-            refusal: 0,
-            kind: Kind::HEX8,
-            count: Kind::HEX8_NODES,
-            ids: [a, b, c, d, e, f, g, h],
+        match self {
+            Cell::Tet4(nodes) => nodes,
+            Cell::Wedge6(nodes) => nodes,
+            Cell::Hex8(nodes) => nodes,
         }
     }
 }

@@ -1,15 +1,18 @@
 -- Laws of lists that are read and written an entry at a time.
 use mathlib.Core.Path.{◌≡◌, refl, sym, ◌∙◌, ap, ap₂}
+use mathlib.Core.Bool.{Bool, true, false, cond, not}
+use mir.Val.{bool_byte}
 use mathlib.Core.List.{List, [], ◌∷◌, ◌++◌, append-nil}
-use Prim.Native.Nat.{ℕ, ◌+◌, ◌≤◌, ◌<◌}
+use Prim.Native.Nat.{ℕ, ◌+◌, ◌-◌, ◌≤◌, ◌<◌}
 use native.Mathlib.Omega.{arith}
-use lib.ListN.{length, get_or, take, drop, set, length-append, length-drop, drop_of_length-le}
-use lib.Seq.{length-take-le, get_or-take, take_all}
+use lib.ListN.{length, get_or, take, drop, set, drop_of_length-le}
+use lib.Seq.{get_or-take}
 use Rattle.base.specs.Kinds.{separator}
 use Rattle.base.specs.Gather.{pick, undigit}
 use Rattle.base.specs.Outcome.{overwrite}
 use Rattle.base.proofs.Lists.{front_more}
-use Rattle.base.proofs.Picks.{length-undigit, within_default}
+use Rattle.base.proofs.Picks.{undigit_at, within_default}
+use Rattle.cuts.specs.Inner.Strings.{Within}
 
 -- what is as long as the place that it is written over fills it
 pub fills : (xs out : List ℕ) → length xs ≡ length out → overwrite xs out ≡ xs
@@ -33,17 +36,18 @@ module _ (n : ℕ) (xs out : List ℕ) where
       a ∙ ap₂ (λ (ys : List ℕ) (x : ℕ). set ys k x) b (sym (get_or-take n xs k 0 h))
       ∙ front_more (take n xs) out k i l ∙ ap (λ (j : ℕ). take j (take n xs) ++ drop j out) (sym e)
 
-pub front_length : (xs out : List ℕ) (k : ℕ) → k ≤ length xs → k ≤ length out → length (take k xs ++ drop k out) ≡ length out
-front_length xs out k h l = simp (length-append, length-take-le k xs h, length-drop) (omega arith)
+-- the id that is read at a corner is the one that is picked
+pub corner_read : (ids string : List ℕ) (at corner : ℕ) → at < length string → Within (length ids) string
+    → corner ≡ get_or string at 0 - 48 → get_or ids corner 0 ≡ get_or (pick ids (undigit string)) at 0
+corner_read ids string at corner h within e =
+    let w = within at h in
+    let lt : get_or string at 0 - 48 < length ids = omega (arith, w.0, w.1) in
+    ap (λ (k : ℕ). get_or ids k 0) e ∙ within_default ids (get_or string at 0 - 48) 0 separator lt ∙ sym (undigit_at ids string at h)
 
--- a string whose ids fill what they are put over
-pub put_fills : (ids string : List ℕ) (n : ℕ) (out : List ℕ) → length string ≡ n → length out ≡ n
-    → overwrite (take n (pick ids (undigit string))) out ≡ pick ids (undigit string)
-put_fills ids string n out s o =
-    let xs = pick ids (undigit string) in
-    let long : length xs ≡ n = length-undigit ids string ∙ s in
-    let short : length xs ≤ n = omega arith in
-    ap (λ (ys : List ℕ). overwrite ys out) (take_all n xs short) ∙ fills xs out (long ∙ sym o)
+-- 0 for the first diagonal, 1 for the second
+pub byte_is : (first : Bool) → bool_byte (not first) ≡ cond first 0 1
+byte_is true = refl
+byte_is false = refl
 
 -- the ids of a quad, read one by one
 pub quad_read : (cell : List ℕ) (a b c d : ℕ) → a < length cell → b < length cell → c < length cell → d < length cell

@@ -2,4 +2,5 @@
 mod Ahead
 mod Laws
 mod Scan
+pub mod Settled
 mod Written

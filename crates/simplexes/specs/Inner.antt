@@ -1,3 +1,4 @@
 -- What the contracts of inner functions cite; no operation's contract needs it to be read.
 pub mod Lesser
 pub mod Written
+pub mod Value

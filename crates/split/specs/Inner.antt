@@ -1,2 +1,2 @@
 -- What the contracts of inner functions cite; no operation's contract needs it to be read.
-pub mod State
+pub mod Hand

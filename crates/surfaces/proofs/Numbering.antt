@@ -9,13 +9,18 @@ use native.Mathlib.Numerals.{add-one}
 use native.Mathlib.Nat.{zero-add}
 use native.Mathlib.Omega.{arith}
 use lib.Dec.{eqb, ltb}
-use lib.ListN.{length, get_or, set, drop, drop_of_length-le, replicate}
-use lib.Seq.{drop-cons, get_or-set_same, get_or-set_other}
+use mir.Val.{bool_byte}
+use lib.ListN.{length, get_or, set, replicate}
+use lib.Seq.{get_or-set_same, get_or-set_other}
 use borrow.Author.Tests.{eqb-true, eqb-false, eq-eqb, ne_eqb, ltb-true, ltb-false}
+use Rattle.std.specs.Prelude.{min, max, Option, MatchOption}
+use Rattle.std.specs.List.{AllWithin, HoldsAt}
+use Rattle.std.proofs.lemmas.Iterator.{index_from_first}
+use Rattle.std.specs.Option.{unwrap_or}
 use Rattle.base.specs.Kinds.{separator}
 use Rattle.base.proofs.Tests.{and-true}
 use Rattle.faces.specs.Edges.{Edge, same, hits, count, twice}
-use Rattle.surfaces.specs.Inner.Numbers.{place_of, pair, edge_by, edges_by, closed_by, edge_number, met, met_twice, Numbered, Zeros, Within}
+use Rattle.surfaces.specs.Inner.Numbers.{place_of, pair, edge_by, edges_by, closed_by, edge_number, met, met_twice, met_in, each_twice, Numbered, Coded, Within}
 
 -- a node's first place is not behind it
 pub place_within : (nodes : List ℕ) (i : ℕ) → i < length nodes → place_of nodes (get_or nodes i separator) ≤ i
@@ -51,6 +56,13 @@ either a b P f g = go (ltb a b) refl
     go : (s : Bool) → ltb a b ≡ s → P (cond s (32 * a + b) (32 * b + a))
     go true e = f (ltb-true a b e)
     go false e = g (ltb-false a b e)
+
+-- the lesser in front of the greater
+pub pair_ordered : (a b : ℕ) → 32 * min a b + max a b ≡ pair a b
+pair_ordered a b =
+    either a b (λ v. 32 * min a b + max a b ≡ v)
+    (λ l. omega arith)
+    (λ l. omega arith)
 
 abbrev Same : ℕ → ℕ → ℕ → ℕ → Type 0
 Same a b x y = ((a ≡ x) × (b ≡ y)) ⊎ ((a ≡ y) × (b ≡ x))
@@ -160,19 +172,34 @@ module _ (nodes next numbers : List ℕ) (long : length next ≡ length nodes) (
   pub numbers_close : met_twice numbers next 0 (length next) ≡ closed_by nodes next
   numbers_close = met-twice 0 (length next) (omega arith)
 
--- a search that has come to place j and has p for the whole
-module _ (nodes : List ℕ) (x j p : ℕ) (come : j + place_of (drop j nodes) x ≡ p) where
-  pub place_here : j < length nodes → get_or nodes j 0 ≡ x → j ≡ p
-  unfolding place_of
-  place_here h e = let z = rw (drop-cons nodes j 0 h, eq-eqb (get_or nodes j 0) x e) at come in omega arith
+-- the list of the edges' numbers is met as the edges are
+module _ (numbers next edges : List ℕ) (coded : Coded numbers next edges) where
+  met_as : (c n : ℕ) → n ≤ length numbers → met_in edges c n ≡ met numbers next c n
+  unfolding met met_in
+  met_as c zero h = refl
+  met_as c (suc n) h = rw (met_as c n (omega arith), coded n (omega arith))
 
-  pub place_on : j < length nodes → (get_or nodes j 0 ≡ x → ⊥) → j + 1 + place_of (drop (j + 1) nodes) x ≡ p
-  unfolding place_of
-  place_on h e = let z = rw (drop-cons nodes j 0 h, ne_eqb (get_or nodes j 0) x e) at come in rw add-one (omega arith)
+  twice_as : (i n : ℕ) → length edges ≡ length next → length next ≤ length numbers → i + n ≤ length numbers
+      → each_twice edges i n ≡ met_twice numbers next i n
+  unfolding met_twice each_twice
+  twice_as i zero e l h = refl
+  twice_as i (suc n) e l h =
+      rw (coded i (omega arith), e, met_as _ (length next) l, twice_as (suc i) n e l (omega arith))
 
-  pub place_end : length nodes ≤ j → j ≡ p
-  unfolding place_of
-  place_end h = let z = rw (drop_of_length-le nodes h) at come in omega arith
+  pub edges_twice : length edges ≡ length next → length next ≤ length numbers
+      → each_twice edges 0 (length edges) ≡ met_twice numbers next 0 (length next)
+  edges_twice e l = rw e (twice_as 0 (length next) e l (omega arith))
+
+-- where a search for a node ends, or the list's length, is its first place
+pub first_place : (nodes : List ℕ) (x : ℕ) (r : Option ℕ)
+    → MatchOption r (AllWithin (λ y. y ≡ x → ⊥) nodes 0 (length nodes))
+    (λ i. (i < length nodes) × HoldsAt (λ y. y ≡ x) nodes i × AllWithin (λ y. y ≡ x → ⊥) nodes 0 i)
+    → place_of nodes x ≡ unwrap_or r (length nodes)
+unfolding place_of
+first_place nodes x r h =
+    index_from_first (λ l. place_of l x) (λ y. y ≡ x) (λ y. y ≡ x → ⊥) refl
+    (λ y l e. rw (eq-eqb y x e))
+    (λ y l n. rw (ne_eqb y x n, add-one)) nodes r h
 
 -- a list that changes in one place
 module _ (list : List ℕ) (i v k : ℕ) (P : ℕ → Type 0) where
@@ -184,28 +211,37 @@ module _ (list : List ℕ) (i v k : ℕ) (P : ℕ → Type 0) where
       go false e = let n = eqb-false k i e in rw (get_or-set_other list i k v 0 n) (g n)
 
 -- the number c at place i is that of the edge there, or it is not
-module _ (numbers next : List ℕ) (c i : ℕ) where
-  pub met_hit : c ≡ edge_number numbers next i → met numbers next c i + 1 ≡ met numbers next c (i + 1)
-  unfolding met
-  met_hit e = let s : i + 1 ≡ suc i = omega arith in rw (s, eq-eqb (edge_number numbers next i) c (sym e))
+module _ (edges : List ℕ) (c i : ℕ) where
+  pub met_hit : c ≡ get_or edges i 0 → met_in edges c i + 1 ≡ met_in edges c (i + 1)
+  unfolding met_in
+  met_hit e = let s : i + 1 ≡ suc i = omega arith in rw (s, eq-eqb (get_or edges i 0) c (sym e))
 
-  pub met_miss : (c ≡ edge_number numbers next i → ⊥) → met numbers next c i ≡ met numbers next c (i + 1)
-  unfolding met
+  pub met_miss : (c ≡ get_or edges i 0 → ⊥) → met_in edges c i ≡ met_in edges c (i + 1)
+  unfolding met_in
   met_miss n =
       let s : i + 1 ≡ suc i = omega arith in
-      rw (s, ne_eqb (edge_number numbers next i) c (λ e. n (sym e))) (omega arith)
+      rw (s, ne_eqb (get_or edges i 0) c (λ e. n (sym e))) (omega arith)
 
 -- the number at place i is met n times in all
-pub twice_from : (numbers next : List ℕ) (i n : ℕ) (b : Bool) → i < length next
-    → n ≡ met numbers next (edge_number numbers next i) (length next) → eqb n 2 ≡ b
-    → met_twice numbers next i (length next - i) ≡ (b && met_twice numbers next (i + 1) (length next - (i + 1)))
-unfolding met_twice
-twice_from numbers next i n b h e t =
-    let l : length next - i ≡ suc (length next - (i + 1)) = omega arith in
+pub twice_from : (edges : List ℕ) (i n : ℕ) (b : Bool) → i < length edges
+    → n ≡ met_in edges (get_or edges i 0) (length edges) → eqb n 2 ≡ b
+    → each_twice edges i (length edges - i) ≡ (b && each_twice edges (i + 1) (length edges - (i + 1)))
+unfolding each_twice
+twice_from edges i n b h e t =
+    let l : length edges - i ≡ suc (length edges - (i + 1)) = omega arith in
     rw (l, ← e, t, add-one)
 
+-- a test as a number
+pub byte_if : (b : Bool) → bool_byte b ≡ cond b 1 0
+byte_if true = refl
+byte_if false = refl
+
+pub byte_few : (b : Bool) → bool_byte b ≤ 1
+byte_few true = omega arith
+byte_few false = omega arith
+
 -- a new array has zeros alone
-pub zeros : (n : ℕ) → Zeros (replicate n 0)
+pub zeros : (n k : ℕ) → ◌≡◌ {A = ℕ} (get_or (replicate n 0) k 0) 0
 zeros zero k = refl
 zeros (suc n) zero = refl
 zeros (suc n) (suc k) = zeros n k

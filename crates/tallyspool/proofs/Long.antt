@@ -1,36 +1,25 @@
--- A separator by its halves, the ids of a whole record, and why more ids than any fixed kind has are refused.
+-- The ids of a whole record, and why more ids than any fixed kind has are refused.
 use mathlib.Core.Path.{◌≡◌, refl}
-use mathlib.Core.Bool.{Bool, true, false, cond, ◌&&◌, ◌||◌}
+use mathlib.Core.Bool.{Bool, true, false, cond, not, ◌&&◌, ◌||◌}
 use mathlib.Core.List.{List, ◌∷◌}
-use Prim.Native.Nat.{ℕ, ◌+◌, ◌-◌, ◌*◌, ◌/◌, ◌<◌, ◌≤◌}
+use Prim.Native.Nat.{ℕ, ◌-◌, ◌/◌, ◌<◌, ◌≤◌}
 use native.Mathlib.Omega.{arith}
 use lib.Dec.{T, eqb, leb, ltb}
 use lib.ListN.{length, take, drop, length-drop, get_or-eq_default}
-use borrow.Author.Tests.{eq-eqb, ne_eqb, eqb-true, eqb-false, le-leb, le-ltb, lt-ltb, leb-true, ltb-true}
+use borrow.Author.Tests.{eq-eqb, ne_eqb, eqb-true, eqb-false, le-leb, le-ltb, lt-ltb, leb-true, ltb-true, ltb-false}
 use Rattle.base.specs.Checks.{element_fits, element_refusal, input_refusal, strays}
-use Rattle.base.specs.Kinds.{is_kind, node_counts, nodes_of, separator}
+use Rattle.base.specs.Kinds.{is_kind, node_counts, nodes_of}
 use Rattle.base.proofs.Lists.{rest_whole}
 use Rattle.base.proofs.Tables.{at}
+use Rattle.base.proofs.Numbers.{kind_is_kind}
 use Rattle.base.proofs.Tests.{and-true}
+use Rattle.std.specs.Option.{is_some}
+use Rattle.std.specs.Prelude.{None, Some}
+use Rattle.base.specs.Inner.Numbers.{number_of, some_unless_zero}
+use Rattle.base.specs.declared.kinds.Kind.{Kind}
 use Rattle.records.specs.Wire.{ids_in}
 use Rattle.records.proofs.Frames.{Stands}
 use Rattle.cuts.specs.Split.{split_kind, split_refusal}
-
--- a number of two halves is the separator if both are
-pub both_halves : (low high : ℕ) → low < 4294967296 → high < 4294967296
-    → (eqb low 4294967295 && eqb high 4294967295) ≡ eqb (low + 4294967296 * high) separator
-both_halves low high l h = go (eqb low 4294967295) (eqb high 4294967295) refl refl
-  where
-    go : (a b : Bool) → eqb low 4294967295 ≡ a → eqb high 4294967295 ≡ b → (a && b) ≡ eqb (low + 4294967296 * high) separator
-    go true true e f =
-        let x = eqb-true low 4294967295 e in let y = eqb-true high 4294967295 f in
-        simp (eq-eqb (low + 4294967296 * high) separator (omega arith))
-    go true false e f =
-        let y = eqb-false high 4294967295 f in
-        simp (ne_eqb (low + 4294967296 * high) separator (λ z. y (omega arith)))
-    go false b e f =
-        let x = eqb-false low 4294967295 e in
-        simp (ne_eqb (low + 4294967296 * high) separator (λ z. x (omega arith)))
 
 -- the ids of a record with no byte behind it are all the rest of the bytes
 pub record_ids : (bytes : List ℕ) (start count next : ℕ) → Stands (length bytes) start count next → next ≡ length bytes
@@ -82,3 +71,33 @@ module _ (kind : ℕ) (ids : List ℕ) (many : 21 < length ids) (few : length id
       simp (e, le-ltb 4096 (length ids) few, eq-eqb (nodes_of kind) 0 (free kind h), lt-ltb 0 (length ids) (omega arith), or-true (eqb kind 19), s)
   long_free false e h s =
       simp (e, le-ltb 4096 (length ids) few, eq-eqb (nodes_of kind) 0 (free kind h), lt-ltb 0 (length ids) (omega arith), or-true (eqb kind 19), s, le-leb 17 kind h)
+
+  -- all that can be said of a kind, by whether it fixes its node count
+  pub long_known : (of : Kind) → number_of of ≡ kind → split_refusal kind ids ≡ cond (eqb (nodes_of kind) 0) (cond (strays kind ids) 4 6) 3
+  long_known of e = go (eqb (nodes_of kind) 0) refl
+    where
+      known : is_kind kind ≡ true
+      known = rw e at (kind_is_kind of)
+
+      positive : 1 ≤ kind
+      positive = leb-true 1 kind (and-true (leb 1 kind) (leb kind 19) known).0
+
+      above : (b : Bool) → ltb kind 17 ≡ b → nodes_of kind ≡ 0 → 17 ≤ kind
+      above true t z = absurd (omega (arith, (fixed kind positive (ltb-true kind 17 t)).0, z))
+      above false t z = ltb-false kind 17 t
+
+      below : (b : Bool) → ltb kind 17 ≡ b → (nodes_of kind ≡ 0 → ⊥) → kind < 17
+      below true t n = ltb-true kind 17 t
+      below false t n = absurd (n (free kind (ltb-false kind 17 t)))
+
+      go : (b : Bool) → eqb (nodes_of kind) 0 ≡ b → split_refusal kind ids ≡ cond b (cond (strays kind ids) 4 6) 3
+      go true f = long_free (strays kind ids) known (above (ltb kind 17) refl (eqb-true _ 0 f)) refl
+      go false f = long_fixed known (below (ltb kind 17) refl (eqb-false _ 0 f))
+
+-- where the paper has 0 for none, there is something unless it is 0
+pub some_is : (n : ℕ) (b : Bool) → is_some (some_unless_zero n) ≡ b → eqb n 0 ≡ not b
+some_is n b h = go (eqb n 0) h
+  where
+    go : (z : Bool) → is_some (cond z None (Some n)) ≡ b → z ≡ not b
+    go true h = rw (← h)
+    go false h = rw (← h)

@@ -1,12 +1,13 @@
-// The C interface: one entry point for each operation, with the operation's own contract. A slice
-// crosses as a pointer and a count; include/tallyspool.h says what a host owes.
+//! The C interface: one entry point for each operation, with the operation's own contract. A slice
+//! crosses as a pointer and a count; include/tallyspool.h says what a host owes. Kinds, refusals, codimensions
+//! and dimensions cross as numbers, and a kind and its ids as two arguments, so the operations behind take them so.
 #![tactic(auto)]
 
 ghost use Rattle.base.specs.Outcome.{Permits};
 ghost use Rattle.blocks.specs.Blocks.{split_block};
 ghost use Rattle.parts.specs.Poly.{to_poly};
 ghost use Rattle.parts.specs.Subentities.{subentities_outcome};
-ghost use Rattle.parts.specs.declared.subentities.Codimension.TheVariants.{Absent, Of};
+ghost use Rattle.std.specs.Prelude.{None, Some};
 ghost use Rattle.recognise.specs.FromPoly.{from_poly};
 ghost use Rattle.records.specs.Wire.{read_outcome, write_outcome};
 ghost use Rattle.cuts.specs.Split.{to_simplexes};
@@ -18,15 +19,15 @@ use parts::subentities::Parts;
 
 mod record;
 
-// The sub-entities with the codimension absent, which means 1.
+/// The sub-entities with the codimension absent, which means 1.
 #[unsafe(no_mangle)]
 pub extern "C" fn ts_subentities(kind: u64, ids: &[u64], out: &mut [u64], ends: &mut [u64]) -> Parts
-    ensures { Permits (subentities_outcome kind Absent ids.now (out.old, ends.old)) result (out.new, ends.new) }
+    ensures { Permits (subentities_outcome kind None ids.now (out.old, ends.old)) result (out.new, ends.new) }
 {
-    parts::subentities::boundary(kind, ids, out, ends)
+    parts::subentities::subentities(kind, None, ids, out, ends).into()
 }
 
-// The sub-entities at a codimension. At 1 the entry point above answers, so that it alone calls that half.
+/// The sub-entities at a codimension.
 #[unsafe(no_mangle)]
 pub extern "C" fn ts_subentities_of(
     kind: u64,
@@ -35,39 +36,36 @@ pub extern "C" fn ts_subentities_of(
     out: &mut [u64],
     ends: &mut [u64],
 ) -> Parts
-    ensures { Permits (subentities_outcome kind (Of codim) ids.now (out.old, ends.old)) result (out.new, ends.new) }
+    ensures { Permits (subentities_outcome kind (Some codim) ids.now (out.old, ends.old)) result (out.new, ends.new) }
 {
-    if codim == 1 {
-        return ts_subentities(kind, ids, out, ends);
-    }
-    parts::subentities::deeper(kind, codim, ids, out)
+    parts::subentities::subentities(kind, Some(codim), ids, out, ends).into()
 }
 
-// The poly form.
+/// The poly form.
 #[unsafe(no_mangle)]
 pub extern "C" fn ts_to_poly(kind: u64, ids: &[u64], out: &mut [u64]) -> Answer
     ensures { Permits (to_poly kind ids.now out.old) result out.new }
 {
-    parts::poly::to_poly(kind, ids, out)
+    parts::poly::to_poly(kind, ids, out).into()
 }
 
-// The fixed kind that an element of a poly kind is.
+/// The fixed kind that an element of a poly kind is.
 #[unsafe(no_mangle)]
 pub extern "C" fn ts_from_poly(kind: u64, ids: &[u64], out: &mut [u64]) -> Answer
     ensures { Permits (from_poly kind ids.now out.old) result out.new }
 {
-    recognise::from_poly(kind, ids, out)
+    recognise::from_poly(kind, ids, out).into()
 }
 
-// The simplexes of one cell.
+/// The simplexes of one cell.
 #[unsafe(no_mangle)]
 pub extern "C" fn ts_to_simplexes(kind: u64, ids: &[u64], out: &mut [u64]) -> Answer
     ensures { Permits (to_simplexes kind ids.now out.old) result out.new }
 {
-    simplexes::to_simplexes(kind, ids, out)
+    simplexes::to_simplexes(kind, ids, out).into()
 }
 
-// The element wound.
+/// The element wound.
 #[unsafe(no_mangle)]
 pub extern "C" fn ts_reorient(
     kind: u64,
@@ -78,37 +76,37 @@ pub extern "C" fn ts_reorient(
 ) -> Answer
     ensures { Permits (reorient_outcome kind ids.now dimension points.now out.old) result out.new }
 {
-    winding::reorient(kind, ids, dimension, points, out)
+    winding::reorient(kind, ids, dimension, points, out).into()
 }
 
-// The tetrahedra of a block of cells.
+/// The tetrahedra of a block of cells.
 #[unsafe(no_mangle)]
 pub extern "C" fn ts_split_block(kind: u64, ids: &[u64], out: &mut [u64]) -> Answer
     ensures { Permits (split_block kind ids.now out.old) result out.new }
 {
-    blocks::split_block(kind, ids, out)
+    blocks::split_block(kind, ids, out).into()
 }
 
-// The ids that little-endian bytes hold.
+/// The ids that little-endian bytes hold.
 #[unsafe(no_mangle)]
 pub extern "C" fn ts_read_ids(bytes: &[u8], out: &mut [u64]) -> Answer
     ensures { Permits (read_outcome bytes.now out.old) result out.new }
 {
-    records::wire::read_ids(bytes, out)
+    records::wire::read_ids(bytes, out).into()
 }
 
-// The ids as little-endian bytes.
+/// The ids as little-endian bytes.
 #[unsafe(no_mangle)]
 pub extern "C" fn ts_write_ids(ids: &[u64], out: &mut [u8]) -> Answer
     ensures { Permits (write_outcome ids.now out.old) result out.new }
 {
-    records::wire::write_ids(ids, out)
+    records::wire::write_ids(ids, out).into()
 }
 
-// The simplexes of the cell that one record holds.
+/// The simplexes of the cell that one record holds.
 #[unsafe(no_mangle)]
 pub extern "C" fn ts_split_record(bytes: &[u8], out: &mut [u64]) -> Answer
     ensures { Permits (split_record bytes.now out.old) result out.new }
 {
-    record::split_record(bytes, out)
+    record::split_record(bytes, out).into()
 }

@@ -1,14 +1,12 @@
 -- What is known of the entries of a list, and of its faces, where no id lacks a point.
-use Rattle.std.proofs.Common.{◌≡◌, ℕ, zero, suc, ◌+◌, ◌-◌, ◌%◌, ◌^◌, ◌<◌, ◌≤◌, Bool, true, false, cond, not, ◌&&◌, ◌||◌, T, eqb, ltb, leb, ◌⊎◌, List, [], ◌∷◌, length, get_or, drop, refl, ◌∙◌, inl, inr, true≢false, zero-le, le_of_suc-le-suc, not-suc-le-zero, mod-eq_of_lt, add-one, arith, ltb→lt, nltb→le, length-drop, length-take-le, get_or-drop, get_or-take, le-ltb, eq-eqb, ne_eqb, eqb-true, leb-false}
+use Rattle.std.proofs.Common.{◌≡◌, ℕ, zero, suc, ◌+◌, ◌%◌, ◌^◌, ◌<◌, ◌≤◌, Bool, true, false, not, ◌&&◌, ◌||◌, T, eqb, ltb, leb, ◌⊎◌, List, [], ◌∷◌, length, get_or, refl, ap₂, ◌∙◌, Fits, w64, inl, inr, true≢false, zero-le, le_of_suc-le-suc, not-suc-le-zero, mod-eq_of_lt, add-one, arith, ltb→lt, nltb→le, le-ltb, ne_eqb, eqb-true, leb-false}
 use lib.Dec.{leb-suc-suc}
 use borrow.Author.Tests.{eqb-false}
 use Rattle.base.specs.Kinds.{separator}
 use Rattle.base.specs.Checks.{holds_separator}
-use Rattle.faces.specs.declared.Face.{Face}
-use Rattle.faces.specs.Inner.Walk.{span, next_face, part}
-use Rattle.faces.proofs.Walk.{Next}
+use Rattle.faces.specs.Faces.{onto, runs, lead, full, faces}
 use Rattle.winding.specs.Points.{lacks_point}
-use Rattle.winding.specs.Inner.Scan.{Placed}
+use Rattle.winding.specs.Inner.Scan.{Placed, any_without}
 
 -- ---- two numbers
 
@@ -46,6 +44,14 @@ wrapped_test count id h = go (same id separator)
         let e : (id + 1) % 2 ^ 64 ≡ suc id = mod-eq_of_lt (omega arith) ∙ add-one id in
         rw (e, ne_eqb id separator s) (leb-suc-suc count id)
 
+-- by that test the list is gone through
+pub lacks_any : (count : ℕ) (ids : List ℕ) → ((i : ℕ) → Fits w64 (get_or ids i 0)) → any_without count ids ≡ lacks_point count ids
+unfolding lacks_point
+lacks_any count [] h = refl
+lacks_any count (x ∷ xs) h =
+    let b : Fits w64 x = h 0 in
+    ap₂ (λ (a b : Bool). a || b) (wrapped_test count x (omega arith)) (lacks_any count xs (λ i. h (suc i)))
+
 -- each id has a point
 pub placed_ids : (count : ℕ) (ids : List ℕ) → lacks_point count ids ≡ false
     → (k : ℕ) → k < length ids → (get_or ids k 0 ≡ separator → ⊥) → get_or ids k 0 < count
@@ -67,30 +73,39 @@ no_separator (x ∷ xs) n (suc k) l e = no_separator xs (or-false_right (eqb x s
 pub placed_all : (count : ℕ) (ids : List ℕ) → lacks_point count ids ≡ false → holds_separator ids ≡ false → Placed count ids
 placed_all count ids h n k l = placed_ids count ids h k l (no_separator ids n k l)
 
--- ---- a face
+-- ---- the faces
 
-run_clean : (l : List ℕ) (k : ℕ) → k < span false l → get_or l k 0 ≡ separator → ⊥
-unfolding span
-run_clean [] k h e = not-suc-le-zero h
-run_clean (x ∷ l) k h e = go (same x separator) (run_clean l) k h e
+-- each of the faces has a node, and each of its nodes a point
+abbrev pub AllPlaced : ℕ → List (List ℕ) → Type 0
+AllPlaced count [] = Unit {0}
+AllPlaced count (f ∷ fs) = (0 < length f) × Placed count f × AllPlaced count fs
+
+none_placed : (count : ℕ) → Placed count []
+none_placed count k h = absurd (not-suc-le-zero h)
+
+one_more : (count x : ℕ) (l : List ℕ) → x < count → Placed count l → Placed count (x ∷ l)
+one_more count x l h p zero k = h
+one_more count x l h p (suc i) k = p i (le_of_suc-le-suc k)
+
+led_placed : (count : ℕ) (r : List ℕ) (fs : List (List ℕ)) → Placed count r → AllPlaced count fs → AllPlaced count (lead r fs)
+led_placed count [] fs p q = q
+led_placed count (x ∷ r) fs p q = (omega arith, p, q)
+
+runs_placed : (count : ℕ) (l : List ℕ) → lacks_point count l ≡ false → Placed count (runs l).first × AllPlaced count (full (runs l).rest)
+unfolding runs full lacks_point
+runs_placed count [] h = (none_placed count, tt)
+runs_placed count (x ∷ l) h =
+    go (eqb x separator) refl (runs_placed count l (or-false_right (not (eqb x separator) && leb count x) (lacks_point count l) h))
   where
-    go : (x ≡ separator) ⊎ (x ≡ separator → ⊥) → ((k : ℕ) → k < span false l → get_or l k 0 ≡ separator → ⊥) → (k : ℕ)
-        → k < cond (not (eqb x separator)) (suc (span false l)) 0 → get_or (x ∷ l) k 0 ≡ separator → ⊥
-    go (inl s) ih k h e = not-suc-le-zero (simp (eq-eqb x separator s) at h)
-    go (inr s) ih zero h e = s e
-    go (inr s) ih (suc k) h e = ih k (le_of_suc-le-suc (simp (ne_eqb x separator s) at h)) e
+    go : (b : Bool) → eqb x separator ≡ b → Placed count (runs l).first × AllPlaced count (full (runs l).rest)
+        → Placed count (onto b x (runs l)).first × AllPlaced count (full (onto b x (runs l)).rest)
+    go true e p = (none_placed count, led_placed count (runs l).first (full (runs l).rest) p.0 p.1)
+    go false e p =
+        let low : x < count = placed_ids count (x ∷ l) h 0 (omega arith) (eqb-false x separator e) in
+        (one_more count x (runs l).first low p.0, p.1)
 
-run_of : (ids : List ℕ) (at : ℕ) (f : Face) → f ≡ next_face ids at → f.end ≡ f.start + span false (drop f.start ids)
-unfolding next_face
-run_of ids at f e = rw e
-
--- each node of the next face has a point
-pub placed_face : (count : ℕ) (ids : List ℕ) (at : ℕ) (f : Face) → lacks_point count ids ≡ false → Next ids at f → f ≡ next_face ids at
-    → Placed count (part ids f.start f.end)
-placed_face count ids at f h n e k l =
-    let long = length-take-le (f.end - f.start) (drop f.start ids) (simp length-drop (omega arith)) in
-    let v : get_or (part ids f.start f.end) k 0 ≡ get_or ids (f.start + k) 0 =
-    get_or-take (f.end - f.start) (drop f.start ids) k 0 (omega arith) ∙ get_or-drop f.start ids k 0 in
-    let clean : get_or ids (f.start + k) 0 ≡ separator → ⊥ =
-    λ s. run_clean (drop f.start ids) k (omega (arith, run_of ids at f e)) (get_or-drop f.start ids k 0 ∙ s) in
-    rw v (placed_ids count ids h (f.start + k) (omega arith) clean)
+pub faces_placed : (count : ℕ) (l : List ℕ) → lacks_point count l ≡ false → AllPlaced count (faces l)
+unfolding faces
+faces_placed count l h =
+    let p = runs_placed count l h in
+    led_placed count (runs l).first (full (runs l).rest) p.0 p.1

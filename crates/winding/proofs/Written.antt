@@ -1,87 +1,71 @@
--- The loop of `put_faces`: what is written, with what the faces from a place on add to it, is the whole answer.
-use Rattle.std.proofs.Common.{◌≡◌, ℕ, ◌+◌, ◌≤◌, List, [], ◌++◌, map, length, drop, sym, refl, ap, ◌∙◌, ap₂, append_assoc, append-nil, arith, length-append, length-drop}
-use Rattle.base.specs.Inner.Place.{put_at}
+-- The loop of `put_faces`: what is written, with what the faces that are left add to it, is the whole answer.
+use Rattle.std.proofs.Common.{◌≡◌, ℕ, ◌+◌, ◌-◌, ◌≤◌, List, [], ◌∷◌, ◌++◌, map, length, take, drop, set, sym, ap, ◌∙◌, append_assoc, append-nil, arith, length-append}
 use Rattle.base.specs.Kinds.{separator}
 use Rattle.base.specs.Outcome.{overwrite}
-use Rattle.faces.specs.declared.Face.{Face}
-use Rattle.faces.specs.Faces.{faces, joined}
-use Rattle.faces.specs.Inner.Walk.{part}
-use Rattle.faces.proofs.Walk.{Next, no_more}
-use Rattle.winding.specs.Inner.Scan.{piece}
-use Rattle.winding.proofs.Joined.{behind, behind_none, behind_lead, map-lead, piece-length, extends, put_splice, splice}
+use borrow.Rule.Slice.PartMut.{put_mid}
+use Rattle.base.proofs.Lists.{length-overwrite, overwrite_more, rest_back, rest_whole}
+use Rattle.faces.specs.Faces.{joined, further}
+use Rattle.winding.proofs.Joined.{separator_behind}
+use Rattle.winding.proofs.Points.{AllPlaced}
 
-module _ (g : List ℕ → List ℕ) (keeps : (f : List ℕ) → length (g f) ≡ length f) (ids out₀ : List ℕ) where
-  abbrev pub Whole : List ℕ
-  Whole = joined separator (map g (faces ids))
-
-  -- what the faces from a place on add to so many entries
-  abbrev pub Rest : ℕ → ℕ → List ℕ
-  Rest i at = behind at (map g (faces (drop i ids)))
-
-  pub record Written (out : List ℕ) (i at : ℕ) : Type 0 where
+module _ (count : ℕ) (g : List ℕ → List ℕ) (keeps : (f : List ℕ) → length (g f) ≡ length f) (whole out₀ : List ℕ) where
+  pub record Written (fs : List (List ℕ)) (out : List ℕ) (at : ℕ) : Type 0 where
     pub done : List ℕ
     pub long : length done ≡ at
-    pub whole : Whole ≡ done ++ Rest i at
-    pub is : out ≡ done ++ drop at out₀
+    pub is_whole : whole ≡ done ++ further separator (map g fs)
+    pub is : out ≡ overwrite done out₀
+    pub placed : AllPlaced count fs
 
-  pub start : Written out₀ 0 0
-  start = record { done = []; long = refl; whole = refl; is = refl }
+  -- the first face is written
+  pub start : (f : List ℕ) (fs : List (List ℕ)) (out : List ℕ) → whole ≡ joined separator (map g (f ∷ fs)) → AllPlaced count (f ∷ fs)
+      → out ≡ overwrite (g f) out₀ → Written fs out (length f)
+  unfolding joined
+  start f fs out e p o = record { done = g f; long = keeps f; is_whole = e; is = o; placed = p.2 }
 
-  module _ (out : List ℕ) (i at : ℕ) (w : Written out i at) where
-    pub length_out : length Whole ≤ length out₀ → length out ≡ length out₀
-    length_out h =
-        omega (
-          arith,
-          w.long,
-          ap length w.whole,
-          length-append w.done (Rest i at),
-          ap length w.is,
-          length-append w.done (drop at out₀),
-          length-drop at out₀,
-        )
+  module _ (fs : List (List ℕ)) (out : List ℕ) (at : ℕ) (w : Written fs out at) where
+    pub ends : fs ≡ [] → out ≡ overwrite whole out₀
+    unfolding further
+    ends e =
+        let h : whole ≡ w.done = w.is_whole ∙ ap (λ (l : List (List ℕ)). w.done ++ further separator (map g l)) e ∙ append-nil w.done in
+        rw h w.is
 
-    pub ends : length ids ≤ i → out ≡ overwrite Whole out₀
-    unfolding overwrite
-    ends h =
-        let e : Whole ≡ w.done = w.whole ∙ simp (no_more ids i h, behind_none, append-nil) in
-        rw (e, w.long) w.is
+    module _ (room : length whole ≤ length out₀) where
+      pub fit : length w.done + length (further separator (map g fs)) ≤ length out₀
+      fit = omega (arith, ap length w.is_whole, length-append w.done (further separator (map g fs)))
 
-    -- with the next face
-    module _ (f : Face) (n : Next ids i f) where
-      abbrev face : List ℕ
-      face = part ids f.start f.end
+      pub length_out : length out ≡ length out₀
+      length_out = ap length w.is ∙ length-overwrite w.done out₀ (omega (arith, fit))
 
-      next : Rest i at ≡ piece at (g face) ++ Rest f.end (at + length (piece at face))
-      next =
-          ap (λ (fs : List (List ℕ)). behind at (map g fs)) n.face
-          ∙ ap (λ (fs : List (List ℕ)). behind at fs) (map-lead g keeps face (faces (drop f.end ids)))
-          ∙ behind_lead at (g face) (map g (faces (drop f.end ids)))
-          ∙ ap (λ (k : ℕ). piece at (g face) ++ Rest f.end (at + k)) (piece-length at (g face) face (keeps face))
+  -- with the next face
+  module _ (f : List ℕ) (fs l : List (List ℕ)) (next : l ≡ f ∷ fs) (out : List ℕ) (at : ℕ) (w : Written l out at) (room : length whole ≤ length out₀) where
+    now : Written (f ∷ fs) out at
+    now = rw next at w
 
-      -- the answer is long enough for the piece
-      pub fits : length Whole ≤ length out₀ → at + length (piece at face) ≤ length out
-      fits h =
-          omega (
-            arith,
-            w.long,
-            ap length (w.whole ∙ ap (λ (l : List ℕ). w.done ++ l) next),
-            length-append w.done (piece at (g face) ++ Rest f.end (at + length (piece at face))),
-            length-append (piece at (g face)) (Rest f.end (at + length (piece at face))),
-            piece-length at (g face) face (keeps face),
-            length_out h,
-          )
+    -- a separator and the face fit
+    pub fits : at + 1 + length f ≤ length out
+    unfolding further
+    fits =
+        omega (arith, now.long, keeps f, fit (f ∷ fs) out at now room, length_out (f ∷ fs) out at now room, length-append (g f) (further separator (map g fs)))
 
-      pub step : (out' : List ℕ) → out' ≡ put_at (piece at (g face)) at out → Written out' f.end (at + length (piece at face))
-      step out' e =
-          let s = piece at (g face) in
-          let k : length s ≡ length (piece at face) = piece-length at (g face) face (keeps face) in
-          record {
-            done = w.done ++ s;
-            long = length-append w.done s ∙ ap₂ (λ (a b : ℕ). a + b) w.long k;
-            whole =
-                w.whole ∙ ap (λ (l : List ℕ). w.done ++ l) next
-                ∙ sym (append_assoc w.done s (Rest f.end (at + length (piece at face))));
-            is =
-                e ∙ put_splice s at out ∙ ap (λ (l : List ℕ). splice l at s) w.is ∙ extends w.done out₀ at s w.long
-                ∙ ap (λ (k : ℕ). (w.done ++ s) ++ drop (at + k) out₀) k;
-          }
+    -- what is lent on from there is all of the rest
+    lent_on : (xs ys : List ℕ) (i : ℕ) → ys ≡ overwrite (g f) (take (length xs - i) (drop i xs))
+        → put_mid i (length xs - i) xs ys ≡ take i xs ++ overwrite (g f) (drop i xs)
+    lent_on xs ys i e =
+        ap (λ (l : List ℕ). take i xs ++ l) (rest_back xs ys i ∙ e ∙ ap (λ (l : List ℕ). overwrite (g f) l) (rest_whole xs i))
+
+    pub step : (ys : List ℕ) → ys ≡ overwrite (g f) (take (length (set out at separator) - (at + 1)) (drop (at + 1) (set out at separator)))
+        → Written fs (put_mid (at + 1) (length (set out at separator) - (at + 1)) (set out at separator) ys) (at + 1 + length f)
+    unfolding further
+    step ys e =
+        let front = now.done ++ separator ∷ [] in
+        let long : length front ≡ at + 1 = length-append now.done (separator ∷ []) ∙ ap (λ (n : ℕ). n + 1) now.long in
+        let here : set out at separator ≡ overwrite front out₀ =
+        ap (λ (l : List ℕ). set l at separator) now.is ∙ ap (λ (n : ℕ). set (overwrite now.done out₀) n separator) (sym now.long)
+        ∙ separator_behind now.done out₀ (omega (arith, now.long, fits, length_out (f ∷ fs) out at now room)) in
+        record {
+          done = front ++ g f;
+          long = length-append front (g f) ∙ omega (arith, long, keeps f);
+          is_whole = now.is_whole ∙ simp append_assoc;
+          is = lent_on (set out at separator) ys (at + 1) e ∙ rw (here, ← long) (overwrite_more front (g f) out₀);
+          placed = now.placed.2;
+        }

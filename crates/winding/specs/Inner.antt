@@ -1,3 +1,5 @@
 -- What the contracts of inner functions cite; no operation's contract needs it to be read.
+pub mod Places
 pub mod Scan
 pub mod Sorted
+pub mod Tasks

@@ -3,9 +3,7 @@ use Rattle.std.specs.Prelude.{ℕ, false, List, [], ◌∷◌, pos, Float}
 use Rattle.std.specs.Float.{fin, binary64}
 use Rattle.std.specs.Float.Ieee.{add, sub, mul, div, lt}
 use Rattle.faces.specs.Edges.{Edge, cycle}
-use Rattle.winding.specs.declared.point.Point.{Point}
-use Rattle.winding.specs.declared.point.Point.TheVariants.{Plane, Space}
-use Rattle.winding.specs.Points.{point_at}
+use Rattle.winding.specs.Points.{Point, Plane, Space, point_at}
 use Rattle.winding.specs.Turn.{turned}
 
 abbrev pub zero64 : Float

@@ -2,8 +2,11 @@
 use Rattle.std.specs.Prelude.{ℕ, ◌+◌, ◌*◌, ◌/◌, ◌%◌, Bool, false, cond, not, ◌&&◌, ◌||◌, List, [], ◌∷◌, ◌==◌, nat_le, slice_index_or, Float}
 use Rattle.std.specs.Float.{nan}
 use Rattle.base.specs.Kinds.{separator}
-use Rattle.winding.specs.declared.point.Point.{Point}
-use Rattle.winding.specs.declared.point.Point.TheVariants.{Plane, Space}
+
+-- a point in the plane or in space
+pub data Point : Type 0 where
+  Plane : Float → Float → Point
+  Space : Float → Float → Float → Point
 
 -- n numbers are a point list: the dimension is 2 or 3, and n a multiple of it
 unfoldable pub points_fit : ℕ → ℕ → Bool

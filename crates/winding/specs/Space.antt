@@ -5,10 +5,8 @@ use Rattle.std.specs.Float.Ieee.{round, add, sub, mul, lt, ne}
 use Rattle.base.specs.Kinds.{separator}
 use Rattle.faces.specs.Faces.{faces, joined}
 use Rattle.faces.specs.Edges.{Edge, cycle}
-use Rattle.winding.specs.declared.point.Point.{Point}
-use Rattle.winding.specs.declared.point.Point.TheVariants.{Plane, Space}
 use Rattle.winding.specs.declared.point.Vector.{Vector}
-use Rattle.winding.specs.Points.{point_at}
+use Rattle.winding.specs.Points.{Point, Plane, Space, point_at}
 use Rattle.winding.specs.Plane.{zero64}
 use Rattle.winding.specs.Reference.{zero_vector, reference_of}
 use Rattle.winding.specs.Turn.{turned}

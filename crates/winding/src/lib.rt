@@ -1,18 +1,20 @@
-// Winding: a cycle in the plane is turned so that its area is not below zero, the faces of a
-// polyhedron in space so that they look out.
+//! Winding: a cycle in the plane is turned so that its area is not below zero, the faces of a
+//! polyhedron in space so that they look out.
 #![tactic(auto)]
 
-ghost use Rattle.std.specs.Prelude.{◌≡◌, ◌≤◌, true, length};
+ghost use Rattle.std.specs.Prelude.{◌≡◌, ◌≤◌, IfSome, length};
+ghost use Rattle.base.specs.Checks.{element_refusal};
+ghost use Rattle.base.specs.Inner.Numbers.{answer_of, number_of};
 ghost use Rattle.base.specs.Outcome.{Permits, overwrite};
-ghost use Rattle.winding.specs.Reorient.{has_no_rule, reorient_outcome, reorient_refusal, reoriented, turns_in_plane, turns_in_space, wants_point};
-ghost use Rattle.winding.specs.Inner.Scan.{answer_size};
+ghost use Rattle.winding.specs.Reorient.{reorient_outcome, turns_in_plane};
+ghost use Rattle.winding.specs.Inner.Tasks.{IsTask, TaskOf, TaskUnless, dimension_number, done_of};
 
-use base::checks::{element_fits, element_refusal};
+use base::checks::{check_element, element_fits};
 use base::kinds::Kind;
 use base::lent::copy;
-use base::refusals::{Answer, Refusal};
+use base::refusals::{Given, Refusal};
 
-mod cycle;
+mod heads;
 mod plane;
 mod point;
 mod reference;
@@ -20,142 +22,144 @@ mod sorted;
 mod space;
 mod write;
 
-use plane::runs_clockwise;
-use point::{IN_PLANE, IN_SPACE, are_placed, lacks_point, point_count, points_fit};
-use reference::reference;
-use write::{faces_size, put_faces, put_run};
+use plane::Cycle;
+use point::{Dimension, Points};
+use space::Solid;
 
-// The element wound: TRI3, QUAD4 and PGON in the plane by their area, PHED in space face by face;
-// every other kind is copied. Refuses 1 to 4, 20 for every kind, 6 for TET4, WEDGE6 and HEX8 in
-// space, 19 where what is wound has an id without a point, and 7.
-pub fn reorient(kind: u64, ids: &[u64], dimension: u64, points: &[f64], out: &mut [u64]) -> Answer
-    ensures { Permits (reorient_outcome kind ids.now dimension points.now out.old) result out.new }
+/// The element wound: TRI3, QUAD4 and PGON in the plane by their area, PHED in space face by face;
+/// every other kind is copied. Refuses 1 to 4, 20 for every kind, 6 for TET4, WEDGE6 and HEX8 in
+/// space, 19 where what is wound has an id without a point, and 7.
+#[tactic(auto, unfolding(base::specs::Outcome::settle, base::specs::Outcome::settle_one, base::specs::Outcome::decide))]
+pub fn reorient(
+    kind: u64,
+    ids: &[u64],
+    dimension: u64,
+    points: &[f64],
+    out: &mut [u64],
+) -> Result<Given, Refusal>
+    ensures { Permits (reorient_outcome kind ids.now dimension points.now out.old) (answer_of result) out.new }
 {
-    let why = reorient_refusal(kind, ids, dimension, points.len());
-    if why != 0 {
-        return Answer::refused(why);
+    let (kind, task) = judge(kind, ids, dimension, points)?;
+    let count = task.size();
+    if out.len() < count {
+        return Err(Refusal::ShortOutput);
     }
-    let size = answer_size(kind, ids, dimension);
-    if out.len() < size {
-        return Answer::refused(Refusal::SHORT_OUTPUT);
-    }
-    wind(kind, ids, dimension, points, out);
-    Answer::given(kind, size as u64)
+    task.write(out);
+    Ok(Given { kind, count })
 }
 
-// The first refusal that the input meets, or 0; n numbers are in the point list. The tests are gone
-// through one by one only where a quick look does not show that nothing refuses.
-fn reorient_refusal(kind: u64, ids: &[u64], dimension: u64, n: usize) -> u64
-    ensures { result ≡ reorient_refusal kind ids.now dimension n }
+/// The kind of an element that nothing refuses, and its task. The tests are gone through one by one
+/// only where a quick look does not show that nothing refuses.
+/// It takes what `reorient` takes, since it reads all of it.
+#[tactic(auto, unfolding(crate::specs::Reorient::reorient_refusal))]
+fn judge<'a>(
+    kind: u64,
+    ids: &'a [u64],
+    dimension: u64,
+    points: &'a [f64],
+) -> Result<(Kind, Task<'a>), Refusal>
+    ensures { TaskUnless kind ids.entry.now dimension points.entry.now result }
 {
-    if is_sound(kind, ids, dimension, n) {
-        return 0;
+    if let Some(found) = sound_cycle(kind, ids, dimension, points) {
+        return Ok(found);
     }
-    first_refusal(kind, ids, dimension, n)
+    let kind = check_element(kind, ids)?;
+    let points = Points::read(dimension, points)?;
+    let task = Task::of(kind, ids, points)?;
+    Ok((kind, task))
 }
 
-// Whether this is a cycle in the plane that nothing refuses. One walk over its ids does for refusals 4
-// and 19: what has a point is no separator.
-fn is_sound(kind: u64, ids: &[u64], dimension: u64, n: usize) -> bool
-    ensures { result ≡ true → reorient_refusal kind ids.now dimension n ≡ 0 }
+/// A quick look that finds a cycle in the plane that nothing refuses. One walk over its ids does for
+/// refusals 4 and 19: what has a point is no separator.
+fn sound_cycle<'a>(
+    kind: u64,
+    ids: &'a [u64],
+    dimension: u64,
+    points: &'a [f64],
+) -> Option<(Kind, Task<'a>)>
+    ensures { IfSome result (λ r. IsTask kind ids.entry.now dimension points.entry.now r) }
 {
-    if !turns_in_plane(kind, dimension) {
-        return false;
+    let Ok(kind) = Kind::try_from(kind) else {
+        return None;
+    };
+    let Ok(points) = Points::read(dimension, points) else {
+        return None;
+    };
+    if turns_in_plane(kind, points.dimension)
+        && ids.len() <= Kind::ELEMENT_LIMIT
+        && element_fits(kind, ids.len())
+        && points.hold(ids)
+    {
+        let points = points.numbers;
+        return Some((kind, Task::InPlane(Cycle { points, ids })));
     }
-    if !points_fit(dimension, n) {
-        return false;
-    }
-    if Kind::ELEMENT_LIMIT < ids.len() {
-        return false;
-    }
-    if element_fits(kind, ids.len()) {
-        return are_placed(point_count(dimension, n), ids);
-    }
-    false
+    None
 }
 
-// The first refusal by every test in its turn.
-fn first_refusal(kind: u64, ids: &[u64], dimension: u64, n: usize) -> u64
-    ensures { result ≡ reorient_refusal kind ids.now dimension n }
+/// Whether this is a kind that is wound in the plane.
+#[tactic(auto, unfolding(crate::specs::Reorient::turns_in_plane))]
+fn turns_in_plane(kind: Kind, dimension: Dimension) -> bool
+    ensures { result ≡ turns_in_plane (number_of kind) (dimension_number dimension) }
 {
-    let why = element_refusal(kind, ids);
-    if why != 0 {
-        return why;
-    }
-    if !points_fit(dimension, n) {
-        return Refusal::WRONG_POINTS;
-    }
-    if has_no_rule(kind, dimension) {
-        return Refusal::NO_RULE;
-    }
-    if wants_point(kind, ids, dimension, n) {
-        return Refusal::NO_POINT;
-    }
-    0
-}
-
-fn has_no_rule(kind: u64, dimension: u64) -> bool
-    ensures { result ≡ has_no_rule kind dimension }
-{
-    (dimension == IN_SPACE)
-        & ((kind == Kind::TET4) | ((kind == Kind::WEDGE6) | (kind == Kind::HEX8)))
-}
-
-// Whether the element is wound and one of its ids has no point.
-fn wants_point(kind: u64, ids: &[u64], dimension: u64, n: usize) -> bool
-    ensures { result ≡ wants_point kind ids.now dimension n }
-{
-    if turns_in_plane(kind, dimension) | turns_in_space(kind, dimension) {
-        return lacks_point(point_count(dimension, n), ids);
-    }
-    false
-}
-
-fn turns_in_plane(kind: u64, dimension: u64) -> bool
-    ensures { result ≡ turns_in_plane kind dimension }
-{
-    if dimension != IN_PLANE {
-        return false;
-    }
-    match kind {
-        Kind::TRI3 => true,
-        Kind::QUAD4 => true,
-        Kind::PGON => true,
+    match (dimension, kind) {
+        (Dimension::Plane, Kind::Tri3 | Kind::Quad4 | Kind::Pgon) => true,
         _ => false,
     }
 }
 
-fn turns_in_space(kind: u64, dimension: u64) -> bool
-    ensures { result ≡ turns_in_space kind dimension }
-{
-    (dimension == IN_SPACE) & (kind == Kind::PHED)
+/// An element that nothing refuses, by what becomes of it.
+#[derive(Clone, Copy)]
+enum Task<'a> {
+    Copied(&'a [u64]),
+    InPlane(Cycle<'a>),
+    InSpace(Solid<'a>),
 }
 
-// How many entries the answer has: in space the empty runs of a polyhedron vanish.
-fn answer_size(kind: u64, ids: &[u64], dimension: u64) -> usize
-    ensures { result ≡ answer_size kind ids.now dimension }
-{
-    if turns_in_space(kind, dimension) {
-        return faces_size(ids);
+impl<'a> Task<'a> {
+    /// The task of an element that none of the refusals 1 to 4 meets, or refusal 6 or 19.
+    #[tactic(auto, unfolding(crate::specs::Reorient::has_no_rule, crate::specs::Reorient::wants_point, crate::specs::Reorient::turns_in_plane, crate::specs::Reorient::turns_in_space, crate::specs::Reorient::reoriented))]
+    fn of(kind: Kind, ids: &'a [u64], points: Points<'a>) -> Result<Task<'a>, Refusal>
+        requires { element_refusal (number_of kind) ids.now ≡ 0 }
+        ensures { TaskOf (number_of kind) ids.entry.now (dimension_number points.entry.dimension) points.entry.numbers.now result }
+    {
+        if turns_in_plane(kind, points.dimension) {
+            points.check(ids)?;
+            let points = points.numbers;
+            return Ok(Task::InPlane(Cycle { points, ids }));
+        }
+        match (points.dimension, kind) {
+            (Dimension::Space, Kind::Phed) => {
+                points.check(ids)?;
+                let points = points.numbers;
+                Ok(Task::InSpace(Solid { points, ids }))
+            }
+            (Dimension::Space, Kind::Tet4 | Kind::Wedge6 | Kind::Hex8) => Err(Refusal::NoRule),
+            _ => Ok(Task::Copied(ids)),
+        }
     }
-    ids.len()
-}
 
-// The answer over the front of out.
-fn wind(kind: u64, ids: &[u64], dimension: u64, points: &[f64], out: &mut [u64])
-    requires points_value { reorient_refusal kind ids.now dimension (length points.now) ≡ 0 }
-    requires points_in_bounds { length (reoriented kind ids.now dimension points.now) ≤ length out.old }
-    ensures { out.new ≡ overwrite (reoriented kind ids.now dimension points.now) out.old }
-{
-    if turns_in_space(kind, dimension) {
-        let inside = reference(points, ids);
-        put_faces(points, ids, inside, out);
-        return;
+    /// How many entries the answer has: in space the empty runs of a polyhedron vanish.
+    #[tactic(auto, using(crate::proofs::Passed::length_in_plane, crate::proofs::Passed::length_in_space))]
+    fn size(self) -> usize
+        ensures { result ≡ length (done_of self.entry) }
+    {
+        match self {
+            Task::Copied(ids) => ids.len(),
+            Task::InPlane(cycle) => cycle.ids.len(),
+            Task::InSpace(solid) => solid.size(),
+        }
     }
-    if turns_in_plane(kind, dimension) {
-        let back = runs_clockwise(points, ids);
-        put_run(ids, back, out, 0);
-        return;
+
+    /// The answer over the front of out.
+    #[tactic(auto, using(crate::proofs::Passed::length_in_plane, crate::proofs::Passed::length_in_space))]
+    fn write(self, out: &mut [u64])
+        requires { length (done_of self) ≤ length out.old }
+        ensures { out.new ≡ overwrite (done_of self.entry) out.old }
+    {
+        match self {
+            Task::Copied(ids) => copy(ids, out),
+            Task::InPlane(cycle) => cycle.write(out),
+            Task::InSpace(solid) => solid.write(out),
+        }
     }
-    copy(ids, out);
 }

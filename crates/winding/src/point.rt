@@ -1,17 +1,14 @@
-// The points of a list of numbers: two each in the plane, three in space. Point i belongs to id i.
-ghost use Rattle.std.specs.Prelude.{◌≡◌, ◌<◌, true, not, ◌&&◌, length, ◌==◌, nat_le};
-ghost use Rattle.base.specs.Kinds.{separator};
-ghost use Rattle.winding.specs.Inner.Scan.{Placed};
-ghost use Rattle.winding.specs.Points.{lacks_point, point_at, point_count, points_fit};
+//! The points of a list of numbers: two each in the plane, three in space. Point i belongs to id i.
+ghost use Rattle.std.specs.Prelude.{◌≡◌, ◌<◌, true, cond, length};
+ghost use Rattle.base.specs.Inner.Numbers.{RefusedBy};
+ghost use Rattle.winding.specs.Inner.Scan.{Placed, any_without};
+ghost use Rattle.winding.specs.Inner.Tasks.{IsOfDimension, PointsUnless, dimension_number};
+ghost use Rattle.winding.specs.Inner.Places.{in_plane, in_space};
+ghost use Rattle.winding.specs.Points.{lacks_point, point_at, point_count};
 
-// A point in the plane or in space.
-#[derive(Clone, Copy)]
-pub enum Point {
-    Plane(f64, f64),
-    Space(f64, f64, f64),
-}
+use base::refusals::Refusal;
 
-// A direction in space, or a sum of points there.
+/// A point in space, a direction there, or a sum of points. Its sums are functions and no `Add`: the specs name them.
 #[derive(Clone, Copy)]
 pub struct Vector {
     pub x: f64,
@@ -19,89 +16,118 @@ pub struct Vector {
     pub z: f64,
 }
 
-// The two dimensions that a point list may have.
-pub const IN_PLANE: u64 = 2;
-
-pub const IN_SPACE: u64 = 3;
-
-// Whether n numbers are a point list: the dimension is 2 or 3, and n a multiple of it.
-pub fn points_fit(dimension: u64, n: usize) -> bool
-    ensures { result ≡ points_fit dimension n }
-{
-    if dimension == IN_PLANE {
-        return n % 2 == 0;
-    }
-    if dimension == IN_SPACE {
-        return n % 3 == 0;
-    }
-    false
+impl Vector {
+    pub const ZERO: Vector = Vector {
+        x: 0.0,
+        y: 0.0,
+        z: 0.0,
+    };
 }
 
-// How many points n numbers give.
-pub fn point_count(dimension: u64, n: usize) -> usize
-    ensures { result ≡ point_count dimension n }
-{
-    if dimension == IN_PLANE { n / 2 } else { n / 3 }
+/// The two dimensions that a point list may have.
+#[derive(Clone, Copy, Debug, PartialEq, Eq)]
+pub enum Dimension {
+    Plane = 2,
+    Space = 3,
 }
 
-// Whether some id of the list has none of so many points.
-pub fn lacks_point(count: usize, ids: &[u64]) -> bool
-    ensures { result ≡ lacks_point count ids.now }
-{
-    let mut i = 0;
-    while i < ids.len() {
-        if has_none(count, ids[i]) {
-            return true;
+impl TryFrom<u64> for Dimension {
+    type Error = Refusal;
+
+    ghost try_from_gives = { IsOfDimension };
+
+    /// The dimension of a number, or refusal 20.
+    fn try_from(number: u64) -> Result<Dimension, Refusal> {
+        match number {
+            2 => Ok(Dimension::Plane),
+            3 => Ok(Dimension::Space),
+            _ => Err(Refusal::WrongPoints),
         }
-        i += 1;
     }
-    false
 }
 
-// Whether every entry of the list is an id with one of so many points.
-pub fn are_placed(count: usize, ids: &[u64]) -> bool
-    ensures { result ≡ true → Placed count ids.now }
-{
-    let mut i = 0;
-    while i < ids.len() {
-        if count as u64 <= ids[i] {
-            return false;
+/// A point list.
+#[derive(Clone, Copy)]
+pub struct Points<'a> {
+    pub dimension: Dimension,
+    pub numbers: &'a [f64],
+}
+
+impl<'a> Points<'a> {
+    /// The points of a list of numbers, or refusal 20.
+    #[tactic(auto, unfolding(crate::specs::Points::points_fit))]
+    pub fn read(dimension: u64, numbers: &'a [f64]) -> Result<Points<'a>, Refusal>
+        ensures { PointsUnless dimension numbers.entry.now result }
+    {
+        let dimension = Dimension::try_from(dimension)?;
+        let rest = match dimension {
+            Dimension::Plane => numbers.len() % 2,
+            Dimension::Space => numbers.len() % 3,
+        };
+        if rest != 0 {
+            return Err(Refusal::WrongPoints);
         }
-        i += 1;
+        Ok(Points { dimension, numbers })
     }
-    true
-}
 
-// Whether an entry is an id with none of so many points. One test does for both: the separator is the
-// highest number, and one more wraps to 0.
-fn has_none(count: usize, id: u64) -> bool
-    ensures { result ≡ (not (id == separator) && nat_le count id) }
-{
-    (count as u64) < std::num::wrapping_add_u64(id, 1)
-}
+    /// How many points there are. Two functions divide by the dimension, each in its own way: a third for the number of it
+    /// would be no shorter.
+    fn count(self) -> u64
+        ensures { result ≡ point_count (dimension_number self.entry.dimension) (length self.entry.numbers.now) }
+    {
+        let count = match self.dimension {
+            Dimension::Plane => self.numbers.len() / 2,
+            Dimension::Space => self.numbers.len() / 3,
+        };
+        count as u64
+    }
 
-// The point of an id, read from the point list.
-pub fn point_at(points: &[f64], dimension: u64, id: u64) -> Point
-    requires { id < point_count dimension (length points.now) }
-    ensures { result ≡ point_at points.now dimension id }
-{
-    if dimension == IN_PLANE {
-        plane_point(points, id as usize)
-    } else {
-        space_point(points, id as usize)
+    /// Refusal 19 where some id of a list has no point.
+    pub fn check(self, ids: &[u64]) -> Result<(), Refusal>
+        ensures { RefusedBy (cond (lacks_point (point_count (dimension_number self.entry.dimension) (length self.entry.numbers.now)) ids.now) 19 0) result }
+    {
+        if any_without(self.count(), ids) {
+            return Err(Refusal::NoPoint);
+        }
+        Ok(())
+    }
+
+    /// Whether every entry of a list is an id that has a point.
+    pub fn hold(self, ids: &[u64]) -> bool
+        ensures { result ≡ true → Placed (point_count (dimension_number self.entry.dimension) (length self.entry.numbers.now)) ids.now }
+    {
+        let count = self.count();
+        ids.iter().all(|id| *id < count)
     }
 }
 
-fn plane_point(points: &[f64], i: usize) -> Point
-    requires { i < point_count 2 (length points.now) }
-    ensures { result ≡ point_at points.now 2 i }
+/// Whether some id of a list has none of so many points. One test finds it, which a separator fails: that
+/// is the highest number, and one more wraps to 0.
+fn any_without(count: u64, ids: &[u64]) -> bool
+    ensures { result ≡ any_without count ids.now }
 {
-    Point::Plane(points[i * 2], points[i * 2 + 1])
+    ids.iter().any(|id| count < id.wrapping_add(1))
 }
 
-fn space_point(points: &[f64], i: usize) -> Point
-    requires { i < point_count 3 (length points.now) }
-    ensures { result ≡ point_at points.now 3 i }
+/// The point of an id in the plane.
+/// A pair and no `Vector`, as it has no third number.
+pub fn plane_point(points: &[f64], id: u64) -> (f64, f64)
+    requires { id < point_count 2 (length points.now) }
+    ensures { in_plane result ≡ point_at points.now 2 id }
 {
-    Point::Space(points[i * 3], points[i * 3 + 1], points[i * 3 + 2])
+    let i = id as usize * 2;
+    (points[i], points[i + 1])
+}
+
+/// The point of an id in space.
+pub fn space_point(points: &[f64], id: u64) -> Vector
+    requires { id < point_count 3 (length points.now) }
+    ensures { in_space result ≡ point_at points.now 3 id }
+{
+    let i = id as usize * 3;
+    Vector {
+        x: points[i],
+        y: points[i + 1],
+        z: points[i + 2],
+    }
 }

@@ -1,9 +1,8 @@
 -- The tables as the code writes them: a row is one string of ASCII digits.
-use Rattle.std.specs.Prelude.{ℕ, ◌+◌, ◌*◌, ◌≤◌, ◌<◌, min, cond, List, [], ◌∷◌, map, length, get_or, replicate}
+use Rattle.std.specs.Prelude.{ℕ, ◌+◌, ◌*◌, ◌≤◌, ◌<◌, min, cond, List, [], ◌∷◌, map, length, get_or}
 use Rattle.base.specs.Gather.{digits, corners}
-use Rattle.base.specs.Outcome.{overwrite}
 use Rattle.cuts.specs.Smallest.{smallest_pos, first_diagonal}
-use Rattle.cuts.specs.Rows.{branch, wedge_quads, wedge_first, wedge_second, renumberings, hex_rows}
+use Rattle.cuts.specs.Rows.{branch, wedge_quads, wedge_first, wedge_second, renumberings}
 use Rattle.cuts.specs.Split.{quad}
 use Rattle.cuts.specs.Table.{hex_table}
 
@@ -17,12 +16,8 @@ Within n string = (i : ℕ) → i < length string → (48 ≤ get_or string i 0)
 unfoldable pub hex_strings : List (List ℕ)
 hex_strings = map (λ rows. ascii (corners 4 rows)) hex_table
 
--- the brick's two steps: the row that the seventh case lacks is filled with 0
 unfoldable pub turn_strings : List (List ℕ)
 turn_strings = map (λ row. ascii (digits 8 row)) renumberings
-
-unfoldable pub case_strings : List (List ℕ)
-case_strings = map (λ rows. overwrite (ascii (corners 4 rows)) (replicate 24 48)) hex_rows
 
 -- two tables' rows in turn
 abbrev pub in_turn : List (List ℕ) → List (List ℕ) → List (List ℕ)

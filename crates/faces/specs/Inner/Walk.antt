@@ -1,7 +1,8 @@
--- How a PHED's list is walked: where the next face at or after a place starts and ends.
+-- How a PHED's list is walked: what stands at its front, where the next face starts and ends, and which faces are left.
 use Rattle.std.specs.Prelude.{ℕ, suc, ◌+◌, ◌-◌, List, [], ◌∷◌, Bool, true, false, not, cond, take, drop, eqb}
 use Rattle.base.specs.Kinds.{separator}
-use Rattle.faces.specs.declared.Face.{Face}
+use Rattle.faces.specs.Faces.{faces}
+use Rattle.faces.specs.declared.Faces.{Faces}
 
 abbrev pub agree : Bool → Bool → Bool
 agree true b = b
@@ -11,6 +12,11 @@ agree false b = not b
 unfoldable pub span : Bool → List ℕ → ℕ
 span separators [] = 0
 span separators (x ∷ l) = cond (agree separators (eqb x separator)) (suc (span separators l)) 0
+
+-- where a face stands in the list: from start up to, and not with, end; equal numbers are no face
+pub record Face : Type 0 where
+  pub start : ℕ
+  pub end : ℕ
 
 -- where the next face at or after a place starts and ends: after the separators there, and after its ids
 abbrev pub start_of : List ℕ → ℕ → ℕ
@@ -25,3 +31,7 @@ next_face l at = record { start = start_of l at; end = end_of l at }
 -- the entries from s up to e
 abbrev pub part : List ℕ → ℕ → ℕ → List ℕ
 part l s e = take (e - s) (drop s l)
+
+-- the faces that a reader has left
+abbrev pub left : Faces → List (List ℕ)
+left reader = faces reader.ids.now

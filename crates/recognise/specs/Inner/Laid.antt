@@ -1,5 +1,5 @@
 -- Lists laid out as the poly forms of the cells are: one separator between two faces and no other.
-use Rattle.std.specs.Prelude.{ℕ, ◌+◌, List, [], ◌∷◌, Bool, cond, not, ◌&&◌, eqb, length}
+use Rattle.std.specs.Prelude.{ℕ, zero, suc, ◌+◌, List, [], ◌∷◌, Bool, cond, not, ◌&&◌, eqb, length}
 use Rattle.base.specs.Gather.{pick}
 use Rattle.base.specs.Kinds.{separator}
 use Rattle.shapes.specs.Brick.{brick}
@@ -11,25 +11,22 @@ use Rattle.surfaces.specs.Inner.Numbers.{closed_by}
 abbrev pub is_node : List ℕ → ℕ → Bool
 is_node l i = not (eqb (nth l i) separator)
 
--- a face of three nodes, or of four, stands at a place and ends there
-abbrev pub tri_at : List ℕ → ℕ → Bool
-tri_at l at = is_node l at && (is_node l (at + 1) && (is_node l (at + 2) && eqb (nth l (at + 3)) separator))
-
-abbrev pub quad_at : List ℕ → ℕ → Bool
-quad_at l at =
-    is_node l at && (is_node l (at + 1) && (is_node l (at + 2) && (is_node l (at + 3) && eqb (nth l (at + 4)) separator)))
+-- a face of n nodes stands at a place and ends there
+abbrev pub face_at : ℕ → List ℕ → ℕ → Bool
+face_at zero l at = eqb (nth l at) separator
+face_at (suc n) l at = is_node l at && face_at n l (at + 1)
 
 -- four triangles, six quads, two triangles and three quads
 abbrev pub laid_tet : List ℕ → Bool
-laid_tet l = eqb (length l) 15 && (tri_at l 0 && (tri_at l 4 && (tri_at l 8 && tri_at l 12)))
+laid_tet l = eqb (length l) 15 && (face_at 3 l 0 && (face_at 3 l 4 && (face_at 3 l 8 && face_at 3 l 12)))
 
 abbrev pub laid_brick : List ℕ → Bool
 laid_brick l =
     eqb (length l) 29
-    && (quad_at l 0 && (quad_at l 5 && (quad_at l 10 && (quad_at l 15 && (quad_at l 20 && quad_at l 25)))))
+    && (face_at 4 l 0 && (face_at 4 l 5 && (face_at 4 l 10 && (face_at 4 l 15 && (face_at 4 l 20 && face_at 4 l 25)))))
 
 abbrev pub laid_wedge : List ℕ → Bool
-laid_wedge l = eqb (length l) 22 && (tri_at l 0 && (tri_at l 4 && (quad_at l 8 && (quad_at l 13 && quad_at l 18))))
+laid_wedge l = eqb (length l) 22 && (face_at 3 l 0 && (face_at 3 l 4 && (face_at 4 l 8 && (face_at 4 l 13 && face_at 4 l 18))))
 
 -- their nodes
 abbrev pub tet_nodes : List ℕ → List ℕ

@@ -25,10 +25,6 @@ edges_by nodes next i (suc n) = edge_by nodes next i ∷ edges_by nodes next (su
 abbrev pub closed_by : List ℕ → List ℕ → Bool
 closed_by nodes next = twice (edges_by nodes next 0 (length next)) (edges_by nodes next 0 (length next))
 
--- every entry is below 24
-abbrev pub Small : List ℕ → Type 0
-Small list = (i : ℕ) → get_or list i 0 < 24
-
 -- the number of the edge from place i
 abbrev pub edge_number : List ℕ → List ℕ → ℕ → ℕ
 edge_number numbers next i = pair (get_or numbers i 0) (get_or numbers (get_or next i 0) 0)
@@ -44,15 +40,30 @@ met_twice numbers next i zero = true
 met_twice numbers next i (suc n) =
     eqb (met numbers next (edge_number numbers next i) (length next)) 2 && met_twice numbers next (suc i) n
 
--- what the code keeps: each node's number, nothing counted yet, and every edge's number counted
+-- the same of a list of the edges' numbers
+unfoldable pub met_in : List ℕ → ℕ → ℕ → ℕ
+met_in edges c zero = 0
+met_in edges c (suc n) = met_in edges c n + cond (eqb (get_or edges n 0) c) 1 0
+
+unfoldable pub each_twice : List ℕ → ℕ → ℕ → Bool
+each_twice edges i zero = true
+each_twice edges i (suc n) = eqb (met_in edges (get_or edges i 0) (length edges)) 2 && each_twice edges (suc i) n
+
+-- what the code keeps: each node's number, all below 24; each edge's number, all below 768; how often each is met
 abbrev pub Numbered : List ℕ → List ℕ → Type 0
 Numbered nodes numbers = (i : ℕ) → i < length nodes → get_or numbers i 0 ≡ place_of nodes (get_or nodes i separator)
 
-abbrev pub Zeros : List ℕ → Type 0
-Zeros counts = (c : ℕ) → get_or counts c 0 ≡ 0
+abbrev pub Small : List ℕ → Type 0
+Small numbers = (i : ℕ) → get_or numbers i 0 < 24
 
-abbrev pub Counted : List ℕ → List ℕ → List ℕ → Type 0
-Counted numbers next counts = (c : ℕ) → c < 768 → get_or counts c 0 ≡ met numbers next c (length next)
+abbrev pub Coded : List ℕ → List ℕ → List ℕ → Type 0
+Coded numbers next edges = (i : ℕ) → i < length numbers → get_or edges i 0 ≡ edge_number numbers next i
+
+abbrev pub Few : List ℕ → Type 0
+Few edges = (i : ℕ) → get_or edges i 0 < 768
+
+abbrev pub Counted : List ℕ → List ℕ → Type 0
+Counted edges counts = (c : ℕ) → c < 768 → get_or counts c 0 ≡ met_in edges c (length edges)
 
 -- every place's next one is a place of the n
 abbrev pub Within : List ℕ → ℕ → Type 0

@@ -1,5 +1,5 @@
 -- The edges that start at the places of a PHED's list, read off the list itself.
-use Rattle.std.specs.Prelude.{ℕ, zero, suc, ◌+◌, List, [], ◌∷◌, Bool, true, false, cond, drop, get_or, eqb}
+use Rattle.std.specs.Prelude.{ℕ, zero, suc, ◌+◌, ◌≡◌, ◌<◌, ◌≤◌, List, [], ◌∷◌, Bool, true, false, cond, drop, get_or, length, eqb, Option, Some, None}
 use Rattle.base.specs.Kinds.{separator}
 use Rattle.faces.specs.Edges.{Edge, edge, hits, count}
 
@@ -39,3 +39,8 @@ edges_from l i = flat (head l i) (drop i l)
 -- how often the edge that starts at place i occurs behind it
 abbrev pub later_at : List ℕ → ℕ → ℕ
 later_at l i = cond (eqb (get_or l i separator) separator) 0 (count (edge_at l i) (edges_from l (i + 1)))
+
+-- the next place from `at` on at which an edge between a and b can start: none starts before it
+abbrev pub NextEnd : List ℕ → ℕ → ℕ → ℕ → Option ℕ → Type 0
+NextEnd l at a b None = count (edge a b) (edges_from l at) ≡ 0
+NextEnd l at a b (Some i) = (at ≤ i) × (i < length l) × (count (edge a b) (edges_from l i) ≡ count (edge a b) (edges_from l at))

@@ -1,7 +1,7 @@
 -- `checks::all_bits` meets its contract: joined bits are no fewer than those of each id, and a separator has the highest.
 use borrow.Author.Rules.{rules}
 use borrow.Author.Tests.{ne_eqb}
-use mathlib.Core.Path.{◌≡◌, refl, ◌∙◌}
+use mathlib.Core.Path.{◌≡◌, ◌∙◌}
 use Prim.Native.Nat.{ℕ, ◌+◌, ◌<◌}
 use native.Mathlib.Numerals.{add-one}
 use native.Mathlib.Omega.{arith}
@@ -25,15 +25,12 @@ passed ids i h low =
     let no = ne_eqb (get_or ids i 0) separator (λ e. omega (arith, e, low)) in
     rw (drop-cons ids i 0 h, no, add-one)
 
-pub loop-i-init : goal.loop-i-init
-loop-i-init c = (search rules, λ low. refl)
-
-pub loop-i-preserved : goal.loop-i-preserved
-loop-i-preserved c =
+pub loop-id-preserved : goal.loop-id-preserved
+loop-id-preserved c =
     let ids = c.args.ids.now in
-    let h : c.loop-i.i < length ids = search rules in
-    (search rules, λ low. let b = both_low _ _ low in c.loop-i.invariant.1 b.0 ∙ passed ids c.loop-i.i h b.1)
+    let h : c.loop-id.id-index < length ids = search rules in
+    λ low. let b = both_low _ _ low in c.loop-id.invariant b.0 ∙ passed ids c.loop-id.id-index h b.1
 
 pub returns : goal.returns
 unfolding holds_separator
-returns c = λ low. rw (drop_of_length-le c.args.ids.now c.loop-i-test.false) at (c.loop-i.invariant.1 low)
+returns c = λ low. rw (drop_of_length-le c.args.ids.now c.loop-id-test.false) at (c.loop-id.invariant low)

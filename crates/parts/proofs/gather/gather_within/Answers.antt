@@ -3,7 +3,7 @@ use borrow.Author.Rules.{rules}
 use mathlib.Core.Path.{◌≡◌, ◌∙◌}
 use Prim.Native.Nat.{◌<◌}
 use native.Mathlib.Omega.{arith}
-use lib.ListN.{length, length-set}
+use lib.ListN.{length}
 use Rattle.base.specs.Gather.{pick, undigit}
 use Rattle.base.proofs.Lists.{front_more, front_whole}
 use Rattle.base.proofs.Picks.{length-undigit, undigit_at}
@@ -16,15 +16,12 @@ node_within-requires c = fits_at _ c.args.row.now c.loop-place.place c.requires.
 pub loop-place-preserved : goal.loop-place-preserved
 loop-place-preserved c =
     let a = c.args in
-    let h : c.loop-place.place < length (pick a.ids.now (undigit a.row.now)) = rw length-undigit (search rules) in (
-      search rules,
-      simp length-set (search rules),
-      rw (c.loop-place.invariant.2, c.node_within.ensures, ← undigit_at a.ids.now a.row.now c.loop-place.place (search rules))
-          (front_more (pick a.ids.now (undigit a.row.now)) a.out.now c.loop-place.place h (omega arith)),
-    )
+    let h : c.loop-place.place < length (pick a.ids.now (undigit a.row.now)) = rw length-undigit (search rules) in
+    rw (c.loop-place.invariant, c.node_within.ensures, ← undigit_at a.ids.now a.row.now c.loop-place.place (search rules))
+    (front_more (pick a.ids.now (undigit a.row.now)) a.out.now c.loop-place.place h (omega arith))
 
 pub returns : goal.returns
 returns c =
     let a = c.args in
     let e : c.loop-place.place ≡ length (pick a.ids.now (undigit a.row.now)) = rw length-undigit (omega arith) in
-    c.loop-place.invariant.2 ∙ front_whole _ _ _ e
+    c.loop-place.invariant ∙ front_whole _ _ _ e

@@ -1,35 +1,25 @@
 -- `lengths::other_length` meets its contract: the faces passed have a or b nodes, so what is left decides.
-use mathlib.Core.Path.{sym, ◌∙◌}
+use mathlib.Core.Path.{◌≡◌, refl, sym, ◌∙◌}
 use native.Mathlib.Omega.{arith}
-use Rattle.faces.proofs.Walk.{Next, next}
-use Rattle.recognise.proofs.Nodes.{other_step, other_end}
+use borrow.Author.Tests.{ne_eqb}
+use lib.ListN.{length}
+use Rattle.faces.specs.Faces.{faces}
+use Rattle.recognise.specs.Recognise.{other_length}
+use Rattle.recognise.proofs.Nodes.{other_here, other_pass, face-some}
 use Rattle.recognise.proofs.lengths.other_length.Goals as goal
 
-pub overflow_sub-size : goal.overflow_sub-size
-overflow_sub-size c =
-    let walk : Next c.args.ids.now c.loop-at.at c.next_face-face.result = next _ _ c.loop-at-test.true _ c.next_face-face.ensures in
-    omega (arith, walk)
+pub returns-then-face-b : goal.returns-then-face-b
+returns-then-face-b c =
+    let a = c.args in
+    let is : other_length a.a a.b (faces a.ids.now) ≡ length c.in-Some.face.now =
+    sym c.loop-face.invariant.2 ∙ other_here a.a a.b _ _ _ c.in-Some.ensures.steps c.if-face-a.true c.if-face-b.true in
+    let some = face-some _ _ _ c.in-Some.ensures.steps in
+    rw (is, ne_eqb (length c.in-Some.face.now) 0 (λ q. omega arith)) refl
 
-pub loop-at-smaller : goal.loop-at-smaller
-loop-at-smaller c =
-    let walk : Next c.args.ids.now c.loop-at.at c.next_face-face.result = next _ _ c.loop-at-test.true _ c.next_face-face.ensures in
-    omega (arith, walk)
-
-pub loop-at-preserved : goal.loop-at-preserved
-loop-at-preserved c =
-    let walk : Next c.args.ids.now c.loop-at.at c.next_face-face.result = next _ _ c.loop-at-test.true _ c.next_face-face.ensures in (
-      omega (arith, walk),
-      sym (rw c.if-size-a.true at (other_step _ _ _ walk c.args.a
-          c.args.b)) ∙ c.loop-at.invariant.1,
-    )
-
-pub returns-else-size-a : goal.returns-else-size-a
-returns-else-size-a c =
-    let walk : Next c.args.ids.now c.loop-at.at c.next_face-face.result = next _ _ c.loop-at-test.true _ c.next_face-face.ensures in
-    sym (rw c.if-size-a.false at (other_step _ _ _ walk c.args.a
-    c.args.b)) ∙ c.loop-at.invariant.1
+pub loop-face-preserved : goal.loop-face-preserved
+loop-face-preserved c =
+    (tt, tt, sym (other_pass c.args.a c.args.b _ _ _ c.in-Some.ensures.steps c.else-face-a.either) ∙ c.loop-face.invariant.2)
 
 pub returns : goal.returns
-returns c =
-    let a = c.args in
-    omega (arith, other_end a.ids.now c.loop-at.at c.loop-at-test.false a.a a.b)
+unfolding other_length
+returns c = rw (← c.loop-face.invariant.2, c.in-None.ensures.steps.0) refl

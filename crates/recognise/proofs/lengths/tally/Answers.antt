@@ -1,27 +1,20 @@
 -- `lengths::tally` meets its contract: what is counted and what is left to count add up to the whole.
-use borrow.Author.Rules.{rules}
-use native.Mathlib.Omega.{arith}
-use Rattle.faces.proofs.Walk.{Next, next}
-use Rattle.recognise.proofs.Nodes.{tally_step, tally_end}
+use Rattle.std.proofs.Common.{arith}
+use native.Mathlib.Nat.{add-zero}
+use Rattle.recognise.specs.Recognise.{tally}
+use Rattle.recognise.proofs.Nodes.{tally_step, tally_few}
 use Rattle.recognise.proofs.lengths.tally.Goals as goal
 
-pub overflow_sub-end : goal.overflow_sub-end
-overflow_sub-end c =
-    let walk : Next c.args.ids.now c.loop-at.at c.next_face-face.result = next _ _ c.loop-at-test.true _ c.next_face-face.ensures in
-    omega (arith, walk)
+pub overflow_add-found : goal.overflow_add-found
+overflow_add-found c =
+    let step = tally_step c.args.n _ _ _ c.in-Some.ensures.steps in
+    omega (arith, c.loop-face.invariant, step, tally_few c.args.n c.args.ids.now, c.from-found.ensures)
 
-pub loop-at-smaller : goal.loop-at-smaller
-loop-at-smaller c =
-    let walk : Next c.args.ids.now c.loop-at.at c.next_face-face.result = next _ _ c.loop-at-test.true _ c.next_face-face.ensures in
-    omega (arith, walk)
-
-pub loop-at-preserved : goal.loop-at-preserved
-loop-at-preserved c =
-    let walk : Next c.args.ids.now c.loop-at.at c.next_face-face.result = next _ _ c.loop-at-test.true _ c.next_face-face.ensures in
-    omega
-    (arith, walk, tally_step _ _ _ walk c.args.n (search rules))
+pub loop-face-preserved : goal.loop-face-preserved
+loop-face-preserved c =
+    let step = tally_step c.args.n _ _ _ c.in-Some.ensures.steps in
+    (tt, tt, omega (arith, c.loop-face.invariant, step, c.from-found.ensures))
 
 pub returns : goal.returns
-returns c =
-    let a = c.args in
-    omega (arith, tally_end a.ids.now c.loop-at.at c.loop-at-test.false a.n)
+unfolding tally
+returns c = rw (c.in-None.ensures.steps.0, add-zero) at c.loop-face.invariant.2

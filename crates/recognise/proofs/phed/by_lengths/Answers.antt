@@ -1,50 +1,25 @@
--- `phed::by_lengths` meets its contract: each return knows how the tests above it went.
-use borrow.Author.Tests.{eq-eqb, ne_eqb}
-use Rattle.shapes.proofs.Found.{holds_as}
-use Rattle.recognise.specs.Recognise.{from_faces}
+-- `phed::by_lengths` meets its contract: each return knows which lengths there are.
+use mathlib.Core.Path.{◌∙◌}
+use Rattle.faces.specs.Faces.{faces}
+use Rattle.recognise.proofs.Nodes.{zero-none, some-is, no_faces, one_length, two_lengths, three_lengths}
 use Rattle.recognise.proofs.phed.by_lengths.Goals as goal
 
-pub returns-then-first-eq0 : goal.returns-then-first-eq0
-unfolding from_faces
-returns-then-first-eq0 c =
-    holds_as c.refused.ensures (rw (
-      ← c.other_length-first.ensures,
-      eq-eqb _ _ c.if-first-eq0.true,
-    ))
+pub returns-in_default : goal.returns-in_default
+returns-in_default c = no_faces (faces c.args.ids.now) (zero-none _ c.in_default.ensures)
 
-pub returns-then-second-eq0 : goal.returns-then-second-eq0
-unfolding from_faces
-returns-then-second-eq0 c =
-    holds_as c.regular.ensures
-    (rw (
-      ← c.other_length-first.ensures,
-      ne_eqb _ _ c.if-first-eq0.false,
-      ← c.other_length-second.ensures,
-      eq-eqb _ _ c.if-second-eq0.true,
-    ))
+pub returns-in_default-other_length : goal.returns-in_default-other_length
+returns-in_default-other_length c =
+    c.regular.ensures
+    ∙ one_length (faces c.args.ids.now) c.in-Some.first (some-is _ _ c.in-Some.ensures) (zero-none _ c.in_default-other_length.ensures)
 
-pub returns-then-other_length-eq0 : goal.returns-then-other_length-eq0
-unfolding from_faces
-returns-then-other_length-eq0 c =
-    holds_as c.mixed.ensures
-    (rw (
-      ← c.other_length-first.ensures,
-      ne_eqb _ _ c.if-first-eq0.false,
-      ← c.other_length-second.ensures,
-      ne_eqb _ _ c.if-second-eq0.false,
-      ← c.other_length.ensures,
-      eq-eqb _ _ c.if-other_length-eq0.true,
-    ))
+pub returns-in-None : goal.returns-in-None
+returns-in-None c =
+    c.mixed.ensures
+    ∙ two_lengths (faces c.args.ids.now) c.in-Some.first (some-is _ _ c.in-Some.ensures) c.in-Some-other_length.second (some-is _ _ c.in-Some-other_length.ensures)
+    (zero-none _ c.in-None.ensures)
 
-pub returns : goal.returns
-unfolding from_faces
-returns c =
-    holds_as c.refused-2.ensures
-    (rw (
-      ← c.other_length-first.ensures,
-      ne_eqb _ _ c.if-first-eq0.false,
-      ← c.other_length-second.ensures,
-      ne_eqb _ _ c.if-second-eq0.false,
-      ← c.other_length.ensures,
-      ne_eqb _ _ c.if-other_length-eq0.false,
-    ))
+pub returns-in-Some-other_length-2 : goal.returns-in-Some-other_length-2
+returns-in-Some-other_length-2 c =
+    three_lengths (faces c.args.ids.now) c.in-Some.first (some-is _ _ c.in-Some.ensures) c.in-Some-other_length.second (some-is _ _ c.in-Some-other_length.ensures)
+    c.in-Some-other_length-2.field-0
+    (some-is _ _ c.in-Some-other_length-2.ensures)

@@ -1,24 +1,16 @@
--- `text::places` meets its contract: the power is the k-th of ten, and the number reaches it.
-use borrow.Author.Rules.{rules}
-use mathlib.Core.Path.{◌≡◌, sym}
-use Prim.Native.Nat.{suc, ◌+◌, ◌*◌, ◌^◌, ◌≤◌, ◌<◌}
-use native.Mathlib.Nat.{pow-succ'}
-use native.Mathlib.Numerals.{add-one}
-use native.Mathlib.Omega.{arith}
-use Rattle.records.proofs.Decimals.{power_below, places-by_power}
+-- `text::places` meets its contract: the logarithm is that of the power which the number reaches, and of no greater one.
+use Rattle.std.proofs.Common.{arith, ◌≤◌, ◌<◌, ◌^◌, add-one, sym, rules}
+use native.Mathlib.Nat.{pow-succ', pow-le-pow_right}
+use Rattle.records.proofs.Decimals.{places-by_power}
 use Rattle.records.proofs.text.places.Goals as goal
-
-pub loop-power-preserved : goal.loop-power-preserved
-loop-power-preserved c =
-    let n = c.args.number in
-    let e : 10 ^ (c.loop-power.k + 1) ≡ 10 * c.loop-power.power = rw (add-one, pow-succ' 10 c.loop-power.k, c.loop-power.invariant.1) in
-    let reached : 10 * c.loop-power.power ≤ n = omega arith in
-    let fits = c.ranges.number.fits in
-    (power_below (c.loop-power.k + 1) (omega arith), omega arith, λ _. reached, omega arith)
 
 pub returns : goal.returns
 returns c =
     let n = c.args.number in
-    let next = pow-succ' 10 c.loop-power.k in
-    let below : n < 10 ^ suc c.loop-power.k = omega arith in
-    (rw add-one (sym (places-by_power c.loop-power.k n (search rules) (rw c.loop-power.invariant.1 at c.loop-power.invariant.2) below)), search rules)
+    let k = c.ilog10.result in
+    let m = c.max.ensures in
+    let low = c.ilog10.ensures.power_le in
+    let high = c.ilog10.ensures.next_power_gt in
+    let next = pow-succ' 10 k in
+    let reached : 0 < k → 10 ^ k ≤ n = λ h. (let ten : 10 ^ 1 ≤ 10 ^ k = pow-le-pow_right (omega arith) h in omega arith) in
+    (rw add-one (sym (places-by_power k n (search rules) reached (omega arith))), omega (arith, c.ilog10.ensures.bound))

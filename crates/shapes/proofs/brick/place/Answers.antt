@@ -1,9 +1,16 @@
--- `brick::place` meets its contract: the four tests are those of the search.
-use native.Mathlib.Omega.{arith}
+-- `brick::place` meets its contract: the first place found is where the search ends.
+use Rattle.std.proofs.Common.{◌≡◌, true, false, rules, tests, nat_eq}
+use Rattle.std.proofs.lemmas.Iterator.{first_from_Range}
 use Rattle.shapes.specs.Brick.{place}
-use Rattle.shapes.specs.Seek.{seek}
+use Rattle.shapes.specs.Seek.{corner}
+use Rattle.shapes.proofs.Seeks.{seek_found}
 use Rattle.shapes.proofs.brick.place.Goals as goal
 
 pub returns : goal.returns
-unfolding place seek
-returns c = (cc, omega arith)
+unfolding place
+returns c =
+    let a = c.args in
+    seek_found (λ j. nat_eq (corner a.quads.now a.k j) a.x) 0 4 _
+    (first_from_Range _ _ _ _ (λ j. nat_eq (corner a.quads.now a.k j) a.x ≡ true) (λ j. nat_eq (corner a.quads.now a.k j) a.x ≡ false) c.find.ensures.ran
+    (λ x q k. search (rules, tests))
+    (λ x q k. search (rules, tests)))

@@ -1,19 +1,16 @@
--- `brick::side` meets its contract: the search from quad k on finds what the whole search does.
-use mathlib.Core.Path.{sym, ◌∙◌}
-use borrow.Author.Rules.{rules}
-use Rattle.shapes.specs.Brick.{side}
-use Rattle.shapes.proofs.Seeks.{seek_here, seek_on, seek-none}
+-- `brick::side` meets its contract: the first face found is where the search ends.
+use Rattle.std.proofs.Common.{◌≡◌, ◌+◌, true, false, rules, tests, not, nat_eq, ◌&&◌}
+use Rattle.std.proofs.lemmas.Iterator.{first_from_Range}
+use Rattle.shapes.specs.Brick.{has_edge, side}
+use Rattle.shapes.specs.Seek.{corner}
+use Rattle.shapes.proofs.Seeks.{seek_found}
 use Rattle.shapes.proofs.brick.side.Goals as goal
 
-pub loop-k-init : goal.loop-k-init
-unfolding side
-loop-k-init c = (search rules, rw (c.corner-a.ensures, c.corner-b.ensures))
-
-pub returns-then-is_side : goal.returns-then-is_side
-returns-then-is_side c = (seek_here _ _ 6 _ c.loop-k.invariant.1 (search rules) (sym c.is_side.ensures ∙ c.if-is_side.true), search rules)
-
-pub loop-k-preserved : goal.loop-k-preserved
-loop-k-preserved c = (search rules, seek_on _ _ 6 _ c.loop-k.invariant.1 (search rules) (sym c.is_side.ensures ∙ c.if-is_side.false))
-
 pub returns : goal.returns
-returns c = (seek-none _ _ 6 _ c.loop-k.invariant.1 (search rules) (search rules), search rules)
+unfolding side
+returns c =
+    let a = c.args in
+    seek_found (λ j. (not (nat_eq j a.o) && has_edge a.quads.now j (corner a.quads.now 0 a.j) (corner a.quads.now 0 (a.j + 1)))) 1 5 _
+    (first_from_Range _ _ _ _ (λ j. (not (nat_eq j a.o) && has_edge a.quads.now j (corner a.quads.now 0 a.j) (corner a.quads.now 0 (a.j + 1))) ≡ true) (λ j. (not (nat_eq j a.o) && has_edge a.quads.now j (corner a.quads.now 0 a.j) (corner a.quads.now 0 (a.j + 1))) ≡ false) c.find.ensures.ran
+    (λ x q k. search (rules, tests))
+    (λ x q k. search (rules, tests)))

@@ -1,46 +1,35 @@
--- `wedge::wedge` meets its contract: each return knows how the tests above it went.
-use borrow.Author.Tests.{eq-eqb, ne_eqb}
-use Rattle.shapes.specs.Wedge.{wedge}
-use Rattle.shapes.proofs.Found.{holds_as}
+-- `wedge::wedge` meets its contract: each return knows what was found.
+use Rattle.std.proofs.Common.{arith, ◌≡◌, ◌∙◌, None, Some}
+use Rattle.std.proofs.lemmas.Result.{err_from_is_err_and}
+use Rattle.base.specs.declared.refusals.Refusal.TheVariants.{NoQuadAtEdge, NotInSecondTriangle}
+use Rattle.shapes.proofs.Sought.{no_quad, not_in_second, with_second}
 use Rattle.shapes.proofs.wedge.wedge.Goals as goal
 
-pub returns-then-k-eq-NONE : goal.returns-then-k-eq-NONE
-unfolding wedge
-returns-then-k-eq-NONE c =
-    holds_as c.refused.ensures
-    (rw (
-      ← c.node-v0.ensures,
-      ← c.node-v1.ensures,
-      ← c.runs_in-k.ensures.0,
-      eq-eqb _ _ c.if-k-eq-NONE.true,
-    ))
+pub returns-in_err-after : goal.returns-in_err-after
+returns-in_err-after c =
+    let a = c.args in
+    let n : c.after_edge.result ≡ None = grind arith in
+    let e : c.in_err-after.field-0.0 ≡ NoQuadAtEdge = grind arith in
+    let p = err_from_is_err_and c.from_residual.result c.from_residual.ensures.1 in
+    rw (p.1, p.2, e) (no_quad a.tris.now a.quads.now _ _ c.node.ensures c.node-2.ensures (rw n at c.after_edge.ensures))
 
-pub returns-then-m-eq-NONE : goal.returns-then-m-eq-NONE
-unfolding wedge
-returns-then-m-eq-NONE c =
-    holds_as c.refused-then-m-eq-NONE.ensures
-    (rw (
-      ← c.node-v0.ensures,
-      ← c.node-v1.ensures,
-      ← c.runs_in-k.ensures.0,
-      ne_eqb _ _ c.if-k-eq-NONE.false,
-      ← c.runs_at.ensures.0,
-      ← c.corner-after.ensures,
-      ← c.place_in_second-m.ensures.0,
-      eq-eqb _ _ c.if-m-eq-NONE.true,
-    ))
+pub returns-in_err-m : goal.returns-in_err-m
+returns-in_err-m c =
+    let a = c.args in
+    let o : c.after_edge.result ≡ Some c.in_ok-after.after = grind arith in
+    let n : c.place_in_second.result ≡ None = grind arith in
+    let e : c.in_err-m.field-0.0 ≡ NotInSecondTriangle = grind arith in
+    let h = rw o at c.after_edge.ensures in
+    let p = err_from_is_err_and c.from_residual-in_err-m.result c.from_residual-in_err-m.ensures.1 in
+    rw (p.1, p.2, e)
+    (not_in_second a.tris.now a.quads.now _ _ c.node.ensures c.node-2.ensures c.in_ok-after.after h.0 h.1 (rw n at c.place_in_second.ensures))
 
 pub returns : goal.returns
-unfolding wedge
 returns c =
-    holds_as c.wedge_from.ensures
-    (rw (
-      ← c.node-v0.ensures,
-      ← c.node-v1.ensures,
-      ← c.runs_in-k.ensures.0,
-      ne_eqb _ _ c.if-k-eq-NONE.false,
-      ← c.runs_at.ensures.0,
-      ← c.corner-after.ensures,
-      ← c.place_in_second-m.ensures.0,
-      ne_eqb _ _ c.if-m-eq-NONE.false,
-    ))
+    let a = c.args in
+    let o : c.after_edge.result ≡ Some c.in_ok-after.after = grind arith in
+    let s : c.place_in_second.result ≡ Some c.in_ok-m.m = grind arith in
+    let h = rw o at c.after_edge.ensures in
+    let k = rw s at c.place_in_second.ensures in
+    c.wedge_from.ensures
+    ∙ with_second a.tris.now a.quads.now _ _ c.node.ensures c.node-2.ensures c.in_ok-after.after h.0 h.1 c.in_ok-m.m k.0 k.1

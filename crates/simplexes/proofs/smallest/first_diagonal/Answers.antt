@@ -12,7 +12,7 @@ pub returns : goal.returns
 returns c =
     let a = c.args in
     let ids = a.ids.now in
-    let four : length a.quad ≡ 4 = search rules in
-    let long : length (pick ids (undigit a.quad)) ≡ 4 = length-undigit ids a.quad ∙ four in
-    let e = c.gather_digits.ensures ∙ fills (pick ids (undigit a.quad)) _ long in
-    rw e at c.on_first.ensures ∙ ap first_diagonal (four_are (pick ids (undigit a.quad)) long)
+    let four : length a.quad.now ≡ 4 = search rules in
+    let long : length (pick ids (undigit a.quad.now)) ≡ 4 = length-undigit ids a.quad.now ∙ four in
+    let e = c.gather_digits.ensures ∙ fills (pick ids (undigit a.quad.now)) _ long in
+    rw e at c.on_first.ensures ∙ ap first_diagonal (four_are (pick ids (undigit a.quad.now)) long)

@@ -1,8 +1,8 @@
 -- `solids::put` meets its contract: before turn i the first 4 * i entries are picked, the others those at entry.
 use mathlib.Core.Path.{◌≡◌}
 use mathlib.Core.List.{List, ◌++◌}
-use Prim.Native.Nat.{ℕ, ◌*◌, ◌-◌, ◌≤◌}
-use lib.ListN.{length, take, drop}
+use Prim.Native.Nat.{ℕ, ◌*◌}
+use lib.ListN.{take, drop}
 use Rattle.base.specs.Gather.{pick, undigit}
 use Rattle.simplexes.proofs.solids.put.Given as goal
 
@@ -12,7 +12,4 @@ whole fours ids string = take (fours * 4) (pick ids (undigit string))
 
 abbrev pub invariant-loop-i : goal.invariant-loop-i
 invariant-loop-i l =
-    (l.i ≤ l.fours) × (length l.out ≡ length l.initial.out) × (l.out ≡ take (l.i * 4) (whole l.fours l.ids l.string) ++ drop (l.i * 4) l.initial.out)
-
-abbrev pub decreases-loop-i : goal.decreases-loop-i
-decreases-loop-i l = l.fours - l.i
+    l.out ≡ take (l.i * 4) (whole l.fours l.ids l.string) ++ drop (l.i * 4) l.initial.out

@@ -1,4 +1,5 @@
 -- `solids::write_hex_ahead` meets its contract: of the six tetrahedra that it writes, five or six count.
+use borrow.Author.Rules.{rules}
 use mathlib.Core.Path.{◌≡◌, ◌∙◌, ap}
 use mathlib.Core.List.{List, []}
 use Prim.Native.Nat.{ℕ, ◌*◌, ◌≤◌, ◌<◌}
@@ -14,26 +15,30 @@ use Rattle.cuts.proofs.Table.{row_is, place_few}
 use Rattle.simplexes.proofs.Ahead.{row_ahead}
 use Rattle.simplexes.proofs.solids.write_hex_ahead.Goals as goal
 
-pub offset_bounds-table-row : goal.offset_bounds-table-row
-offset_bounds-table-row c =
-    let few : c.args.row < 64 = rw c.requires.table_value.2 (place_few c.args.ids.now) in
+pub offset_bounds-hex_table-row : goal.offset_bounds-hex_table-row
+offset_bounds-hex_table-row c =
+    let few : c.args.row < 64 = rw c.requires.row_value (place_few c.args.ids.now) in
     record { fits = omega (arith, few) }
 
-pub bounds-table-row : goal.bounds-table-row
-bounds-table-row c = rw c.requires.table_value.2 (place_few c.args.ids.now)
+pub bounds-hex_table-row : goal.bounds-hex_table-row
+bounds-hex_table-row c = rw c.requires.row_value (place_few c.args.ids.now)
+
+pub row_count-requires : goal.row_count-requires
+row_count-requires c = rw c.requires.row_value (place_few c.args.ids.now)
 
 pub put-requires : goal.put-requires
 put-requires c =
-    let few : c.args.row < 64 = rw c.requires.table_value.2 (place_few c.args.ids.now) in
-    (omega arith, omega (arith, c.requires.in_bounds), rw (c.requires.table_value.0, c.requires.table_value.1) (hex_within c.args.row few))
+    let few : c.args.row < 64 = rw c.requires.row_value (place_few c.args.ids.now) in
+    let size : length c.args.ids.now ≡ 8 = search rules in
+    (omega arith, omega (arith, c.requires.in_bounds), rw (c.hex_table.ensures, size) (hex_within c.args.row few))
 
 pub returns : goal.returns
 returns c =
     let ids = c.args.ids.now in
-    let string = get_or c.args.table.now c.args.row [] in
+    let string = get_or c.hex_table.result.now c.args.row [] in
     let X = pick ids (undigit string) in
-    let row = row_is ids string c.args.row c.row_count.result c.requires.table_value.2
-    (ap (λ (t : List (List ℕ)). get_or t c.args.row []) c.requires.table_value.0) c.row_count.ensures.0 in
+    let row = row_is ids string c.args.row c.row_count.result c.requires.row_value
+    (ap (λ (t : List (List ℕ)). get_or t c.args.row []) c.hex_table.ensures) c.row_count.ensures.0 in
     let done = simplexes 4 (hex_cut ids) in
     let count : length done ≡ c.row_count.result * 4 = omega (arith, row.counted, length-simplexes 4 (hex_cut ids)) in
     let whole : length (take 24 X) ≡ 24 = length-take-le 24 X (rw (length-undigit ids string) (omega arith)) in

@@ -1,5 +1,5 @@
 -- `numbers::number_nodes` meets its contract: before turn i the first i nodes have their numbers, and all are below 24.
-use Prim.Native.Nat.{ℕ, ◌-◌, ◌<◌, ◌≤◌}
+use Prim.Native.Nat.{ℕ, ◌<◌}
 use mathlib.Core.Path.{◌≡◌}
 use lib.ListN.{length, get_or}
 use Rattle.base.specs.Kinds.{separator}
@@ -7,9 +7,6 @@ use Rattle.surfaces.specs.Inner.Numbers.{place_of, Small}
 use Rattle.surfaces.proofs.numbers.number_nodes.Given as goal
 
 abbrev pub invariant-loop-i : goal.invariant-loop-i
-invariant-loop-i l =
-    (l.i ≤ length l.nodes) × (length l.numbers ≡ 24) × Small l.numbers
-    × ((k : ℕ) → k < l.i → get_or l.numbers k 0 ≡ place_of l.nodes (get_or l.nodes k separator))
-
-abbrev pub decreases-loop-i : goal.decreases-loop-i
-decreases-loop-i l = length l.nodes - l.i
+invariant-loop-i g l =
+    ((k : ℕ) → k < l.i → get_or l.numbers k 0 ≡ place_of l.nodes (get_or l.nodes k separator)) × Small l.numbers
+    × (length l.numbers ≡ length l.nodes)

@@ -1,17 +1,14 @@
--- `numbers::number_of` meets its contract: the places passed and the search in what is left make up the whole search.
-use borrow.Author.Rules.{rules}
-use native.Mathlib.Omega.{arith}
-use Rattle.surfaces.proofs.Numbering.{place_here, place_on, place_end}
+-- `numbers::number_of` meets its contract: where the search ends is the first place.
+use Rattle.std.proofs.Common.{◌≡◌, ◌∙◌, sym, rules, tests}
+use Rattle.std.proofs.lemmas.Iterator.{IsFirst-from_position, YieldsList-from_slice}
+use Rattle.surfaces.proofs.Numbering.{first_place}
 use Rattle.surfaces.proofs.numbers.number_of.Goals as goal
 
-pub loop-j-init : goal.loop-j-init
-loop-j-init c = (search rules, omega arith)
-
-pub returns-then-nodes-j : goal.returns-then-nodes-j
-returns-then-nodes-j c = place_here _ _ _ _ c.loop-j.invariant.1 (search rules) c.if-nodes-j.true
-
-pub loop-j-preserved : goal.loop-j-preserved
-loop-j-preserved c = (search rules, place_on _ _ _ _ c.loop-j.invariant.1 (search rules) c.if-nodes-j.false)
-
 pub returns : goal.returns
-returns c = place_end _ _ _ _ c.loop-j.invariant.1 c.loop-j-test.false
+returns c =
+    let a = c.args in
+    c.unwrap_or.ensures
+    ∙ sym (first_place a.nodes.now a.x c.position.result
+    (IsFirst-from_position _ _ _ (λ y. y ≡ a.x) (λ y. y ≡ a.x → ⊥) c.position.ensures.ran (YieldsList-from_slice a.nodes.now cc)
+    (λ x q k. search (rules, tests))
+    (λ x q k. search (rules, tests))))

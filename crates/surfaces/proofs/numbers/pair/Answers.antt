@@ -1,13 +1,8 @@
--- `numbers::pair` meets its contract: each return knows which number is the lower.
-use borrow.Author.Tests.{lt-ltb, le-ltb}
+-- `numbers::pair` meets its contract: the lesser stands in front.
 use native.Mathlib.Omega.{arith}
-use Rattle.surfaces.specs.Inner.Numbers.{pair}
+use Rattle.surfaces.proofs.Numbering.{pair_ordered}
 use Rattle.surfaces.proofs.numbers.pair.Goals as goal
 
-pub returns-then-a-b : goal.returns-then-a-b
-unfolding pair
-returns-then-a-b c = (rw (lt-ltb _ _ c.if-a-b.true), omega arith)
-
-pub returns-else-a-b : goal.returns-else-a-b
-unfolding pair
-returns-else-a-b c = (rw (le-ltb _ _ c.if-a-b.false), omega arith)
+pub returns : goal.returns
+returns c =
+    (rw (c.min.ensures, c.max.ensures) (pair_ordered c.args.a c.args.b), rw (c.min.ensures, c.max.ensures) (omega arith))

@@ -1,8 +1,7 @@
 -- `surface::head` meets its contract: the place before has the same first node, unless a separator stands there.
-use Prim.Native.Nat.{◌-◌}
+use Prim.Native.Nat.{◌+◌, ◌-◌}
 use mathlib.Core.Path.{◌≡◌, sym, ◌∙◌}
 use mathlib.Core.Bool.{false, true}
-use borrow.Author.Rules.{rules}
 use borrow.Author.Tests.{eq-eqb, ne_eqb}
 use native.Mathlib.Omega.{arith}
 use lib.Dec.{eqb}
@@ -14,17 +13,16 @@ use Rattle.surfaces.proofs.surface.head.Goals as goal
 
 pub returns-then-node : goal.returns-then-node
 returns-then-node c =
-    let a = c.args in
-    let t : eqb (get_or a.ids.now (c.loop-k.k - 1) separator) separator ≡ true =
-    rw (← c.node.ensures) (eq-eqb _ _ c.if-node.true) in
-    c.node-then-node.ensures ∙ sym (head_back a.ids.now c.loop-k.k true (search rules) t) ∙ c.loop-k.invariant
+    let ids = c.args.ids.now in
+    let t : eqb (get_or ids (c.loop-k.k - 1) separator) separator ≡ true = rw (← c.node.ensures) (eq-eqb _ _ c.if-node.true) in
+    let k : c.loop-k.k - 1 + 1 ≡ c.loop-k.k = omega arith in
+    c.node-then-node.ensures ∙ rw k (sym (head_back ids c.loop-k.k true c.loop-k-test.true t)) ∙ c.loop-k.invariant
 
 pub loop-k-preserved : goal.loop-k-preserved
 loop-k-preserved c =
-    let a = c.args in
-    let t : eqb (get_or a.ids.now (c.loop-k.k - 1) separator) separator ≡ false =
-    rw (← c.node.ensures) (ne_eqb _ _ c.if-node.false) in
-    sym (head_back a.ids.now c.loop-k.k false (search rules) t) ∙ c.loop-k.invariant
+    let ids = c.args.ids.now in
+    let t : eqb (get_or ids (c.loop-k.k - 1) separator) separator ≡ false = rw (← c.node.ensures) (ne_eqb _ _ c.if-node.false) in
+    sym (head_back ids c.loop-k.k false c.loop-k-test.true t) ∙ c.loop-k.invariant
 
 pub returns : goal.returns
 unfolding head

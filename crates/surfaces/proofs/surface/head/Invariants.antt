@@ -5,6 +5,3 @@ use Rattle.surfaces.proofs.surface.head.Given as goal
 
 abbrev pub invariant-loop-k : goal.invariant-loop-k
 invariant-loop-k l = head l.ids l.k ≡ head l.ids l.i
-
-abbrev pub decreases-loop-k : goal.decreases-loop-k
-decreases-loop-k l = l.k

@@ -1,7 +1,6 @@
 -- `surface::is_closed` meets its contract: the check of the edges left, with what was counted, decides.
-use Prim.Native.Nat.{◌-◌, ◌≤◌}
+use Prim.Native.Nat.{◌≤◌}
 use mathlib.Core.Path.{◌≡◌}
-use lib.ListN.{length}
 use Rattle.faces.specs.Faces.{faces}
 use Rattle.faces.specs.Edges.{closed}
 use Rattle.surfaces.specs.Inner.Places.{edges_from}
@@ -10,7 +9,4 @@ use Rattle.surfaces.proofs.surface.is_closed.Given as goal
 
 abbrev pub invariant-loop-i : goal.invariant-loop-i
 invariant-loop-i l =
-    (l.i ≤ length l.ids) × (l.edges ≤ l.i) × (l.pairs ≤ l.i) × (paired l.pairs l.edges (edges_from l.ids l.i) ≡ closed (faces l.ids))
-
-abbrev pub decreases-loop-i : goal.decreases-loop-i
-decreases-loop-i l = length l.ids - l.i
+    (l.edges ≤ l.i) × (l.pairs ≤ l.i) × (paired l.pairs l.edges (edges_from l.ids l.i) ≡ closed (faces l.ids))

@@ -1,13 +1,8 @@
 -- `surface::next_end` meets its contract: no edge between a and b starts at the places passed.
-use Prim.Native.Nat.{◌-◌, ◌≤◌}
 use mathlib.Core.Path.{◌≡◌}
-use lib.ListN.{length}
 use Rattle.faces.specs.Edges.{edge, count}
 use Rattle.surfaces.specs.Inner.Places.{edges_from}
 use Rattle.surfaces.proofs.surface.next_end.Given as goal
 
 abbrev pub invariant-loop-i : goal.invariant-loop-i
-invariant-loop-i l = (l.at ≤ l.i) × (count (edge l.a l.b) (edges_from l.ids l.i) ≡ count (edge l.a l.b) (edges_from l.ids l.at))
-
-abbrev pub decreases-loop-i : goal.decreases-loop-i
-decreases-loop-i l = length l.ids - l.i
+invariant-loop-i l = count (edge l.a l.b) (edges_from l.ids l.i) ≡ count (edge l.a l.b) (edges_from l.ids l.at)

@@ -8,7 +8,7 @@ use Rattle.surfaces.proofs.surface.occurrences.Given as goal
 
 abbrev pub invariant-loop-i : goal.invariant-loop-i
 invariant-loop-i l =
-    (l.found ≤ l.i) × (l.found + count (edge l.a l.b) (edges_from l.ids l.i) ≡ count (edge l.a l.b) (edges_from l.ids l.at))
+    (l.found ≤ l.at) × (l.found + count (edge l.a l.b) (edges_from l.ids l.at) ≡ count (edge l.a l.b) (edges_from l.ids l.fn.at))
 
 abbrev pub decreases-loop-i : goal.decreases-loop-i
-decreases-loop-i l = length l.ids - l.i
+decreases-loop-i l = length l.ids - l.at

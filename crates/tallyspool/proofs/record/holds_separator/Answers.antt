@@ -1,28 +1,44 @@
--- `record::holds_separator` meets its contract: what was found, or else what is left to read, decides.
-use borrow.Author.Rules.{rules}
-use mathlib.Core.Path.{sym, ◌∙◌}
-use Prim.Native.Nat.{◌≤◌, ◌<◌, ◌/◌}
-use native.Mathlib.Numerals.{add-one}
-use lib.ListN.{length, drop_of_length-le}
+-- `record::holds_separator` meets its contract: no id that is passed is a separator.
+use Rattle.std.proofs.Common.{◌≡◌, ◌∙◌, ◌+◌, ◌/◌, ◌<◌, ◌≤◌, ℕ, List, sym, length, nat_eq, arith, drop, get_or, eq-eqb, ne_eqb, add-one}
+use lib.ListN.{drop_of_length-le}
 use lib.Seq.{drop-cons}
+use mathlib.Core.Bool.{◌||◌}
 use Rattle.base.specs.Checks.{holds_separator}
-use Rattle.base.proofs.Tests.{or_assoc, or-false}
+use Rattle.base.specs.Kinds.{separator}
 use Rattle.records.specs.Wire.{ids_in}
-use Rattle.records.proofs.Bytes.{length_ids, ids_at}
+use Rattle.records.proofs.Bytes.{id_at, length_ids}
 use Rattle.tallyspool.proofs.record.holds_separator.Goals as goal
 
-pub loop-i-preserved : goal.loop-i-preserved
+-- the search by the entry at a place, of which it is told whether it is a separator
+step : (ids : List ℕ) (i id : ℕ) → i < length ids → id ≡ get_or ids i 0
+    → holds_separator (drop i ids) ≡ (nat_eq id separator || holds_separator (drop (i + 1) ids))
 unfolding holds_separator
-loop-i-preserved c =
-    let bytes = c.args.bytes.now in
-    let n = length bytes / 8 in
-    let h : c.loop-i.i < length (ids_in n bytes) = rw length_ids c.loop-i-test.true in
-    (search rules, rw (or_assoc, add-one, c.separator_at-found.ensures) (rw (drop-cons (ids_in n bytes) c.loop-i.i 0 h, ids_at n bytes c.loop-i.i c.loop-i-test.true) at c.loop-i.invariant.1))
+step ids i id h e = rw (add-one, drop-cons ids i 0 h, e)
+
+pub loop-id-preserved : goal.loop-id-preserved
+loop-id-preserved c =
+    let s = c.args.bytes.now in
+    let n = length s / 8 in
+    let at = c.loop-id.id-index in
+    let fits : at < n = omega (arith, c.as_chunks.ensures.front_len) in
+    let l : at < length (ids_in n s) = rw length_ids fits in
+    let v = c.from_le_bytes.ensures ∙ id_at n s c.as_chunks.result.0.now at _ c.as_chunks.ensures.front (omega arith) fits in
+    sym (step (ids_in n s) at _ l v ∙ simp (ne_eqb _ _ c.if-from_le_bytes.false)) ∙ c.loop-id.invariant
+
+pub returns-then-from_le_bytes : goal.returns-then-from_le_bytes
+returns-then-from_le_bytes c =
+    let s = c.args.bytes.now in
+    let n = length s / 8 in
+    let at = c.loop-id.id-index in
+    let fits : at < n = omega (arith, c.as_chunks.ensures.front_len) in
+    let l : at < length (ids_in n s) = rw length_ids fits in
+    let v = c.from_le_bytes.ensures ∙ id_at n s c.as_chunks.result.0.now at _ c.as_chunks.ensures.front (omega arith) fits in
+    sym (step (ids_in n s) at _ l v ∙ simp (eq-eqb _ _ c.if-from_le_bytes.true)) ∙ c.loop-id.invariant
 
 pub returns : goal.returns
 unfolding holds_separator
 returns c =
-    let bytes = c.args.bytes.now in
-    let n = length bytes / 8 in
-    let h : length (ids_in n bytes) ≤ c.loop-i.i = rw length_ids c.loop-i-test.false in
-    sym (or-false c.loop-i.found) ∙ (rw (drop_of_length-le (ids_in n bytes) h) at c.loop-i.invariant.1)
+    let s = c.args.bytes.now in
+    let n = length s / 8 in
+    let l : length (ids_in n s) ≤ c.loop-id.id-index = rw length_ids (omega (arith, c.as_chunks.ensures.front_len)) in
+    rw (drop_of_length-le (ids_in n s) l) at c.loop-id.invariant

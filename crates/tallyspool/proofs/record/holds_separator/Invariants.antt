@@ -1,15 +1,9 @@
--- `record::holds_separator` meets its contract: what was found, or else what is left to read, decides.
-use mathlib.Core.Path.{◌≡◌}
-use mathlib.Core.Bool.{◌||◌}
-use Prim.Native.Nat.{◌≤◌, ◌-◌}
-use lib.ListN.{drop}
+-- `record::holds_separator` meets its contract: no id that is passed is a separator.
+use Rattle.std.proofs.Common.{◌≡◌, ◌/◌, length, drop}
 use Rattle.base.specs.Checks.{holds_separator}
 use Rattle.records.specs.Wire.{ids_in}
 use Rattle.tallyspool.proofs.record.holds_separator.Given as goal
 
-abbrev pub invariant-loop-i : goal.invariant-loop-i
-invariant-loop-i l =
-    (l.i ≤ l.count) × ((l.found || holds_separator (drop l.i (ids_in l.count l.bytes))) ≡ holds_separator (ids_in l.count l.bytes))
-
-abbrev pub decreases-loop-i : goal.decreases-loop-i
-decreases-loop-i l = l.count - l.i
+abbrev pub invariant-loop-id : goal.invariant-loop-id
+invariant-loop-id l =
+    holds_separator (drop l.id-index (ids_in (length l.bytes / 8) l.bytes)) ≡ holds_separator (ids_in (length l.bytes / 8) l.bytes)

@@ -8,48 +8,31 @@ use Rattle.tallyspool.proofs.record.split_record.Goals as goal
 
 pub slice_bounds-split_bytes-count : goal.slice_bounds-split_bytes-count
 slice_bounds-split_bytes-count c =
-    let s = stands c.args.bytes.now 0 _ _ _ _ (sym c.frame_at-frame.ensures ∙ c.in-Whole.is) in
+    let s = stands c.args.bytes.now 0 _ _ _ _ (sym c.frame_at.ensures ∙ c.in-Whole.is) in
     omega (arith, s.eights)
 
 pub slice_bounds-split_bytes-start : goal.slice_bounds-split_bytes-start
 slice_bounds-split_bytes-start c =
-    let s = stands c.args.bytes.now 0 _ _ _ _ (sym c.frame_at-frame.ensures ∙ c.in-Whole.is) in
+    let s = stands c.args.bytes.now 0 _ _ _ _ (sym c.frame_at.ensures ∙ c.in-Whole.is) in
     omega (arith, s.eights)
 
 pub split_bytes-requires : goal.split_bytes-requires
 split_bytes-requires c =
     let bytes = c.args.bytes.now in
     let w = c.in-Whole in
-    let s = stands bytes 0 _ _ _ _ (sym c.frame_at-frame.ensures ∙ w.is) in
+    let s = stands bytes 0 _ _ _ _ (sym c.frame_at.ensures ∙ w.is) in
     let within : w.next - w.start ≤ length (drop w.start bytes) = rw length-drop (omega (arith, s.within)) in
     rw (length-take-le (w.next - w.start) (drop w.start bytes) within) (omega (arith, s.eights), omega (arith, s.eights, s.few))
 
-pub returns-then-next-bytes : goal.returns-then-next-bytes
+pub returns-in-Whole : goal.returns-in-Whole
 unfolding split_record
-returns-then-next-bytes c =
+returns-in-Whole c =
     let bytes = c.args.bytes.now in
-    let whole = sym c.frame_at-frame.ensures ∙ c.in-Whole.is in
+    let whole = sym c.frame_at.ensures ∙ c.in-Whole.is in
     let s = stands bytes 0 _ _ _ _ whole in
-    rw (whole, eq-eqb _ _ c.if-next-bytes.true)
-    (rw (record_ids bytes _ _ _ s c.if-next-bytes.true) at c.split_bytes.ensures)
+    rw (whole, eq-eqb _ _ c.if-next-bytes.true) (rw (record_ids bytes _ _ _ s c.if-next-bytes.true) at c.split_bytes.ensures)
 
-pub returns-else-next-bytes : goal.returns-else-next-bytes
+pub returns-in_default : goal.returns-in_default
 unfolding split_record
-returns-else-next-bytes c =
-    rw (sym c.frame_at-frame.ensures ∙ c.in-Whole.is, ne_eqb _ _ c.if-next-bytes.false)
-    (record { answered = c.refused.ensures; left = refl })
-
-pub returns-in-End : goal.returns-in-End
-unfolding split_record
-returns-in-End c =
-    rw (sym c.frame_at-frame.ensures ∙ c.in-End.is) (record { answered = c.refused-in-End.ensures; left = refl })
-
-pub returns-in-Cut : goal.returns-in-Cut
-unfolding split_record
-returns-in-Cut c =
-    rw (sym c.frame_at-frame.ensures ∙ c.in-Cut.is) (record { answered = c.refused-in-Cut.ensures; left = refl })
-
-pub returns-in-Odd : goal.returns-in-Odd
-unfolding split_record
-returns-in-Odd c =
-    rw (sym c.frame_at-frame.ensures ∙ c.in-Odd.is) (record { answered = c.refused-in-Odd.ensures; left = refl })
+returns-in_default c =
+    rw (sym c.frame_at.ensures ∙ c.in-Whole.is, ne_eqb _ _ c.if-next-bytes.false) (record { answered = refl; left = refl })

@@ -1,2 +1,0 @@
--- What the contracts of inner functions cite; no operation's contract needs it to be read.
-pub mod Stored
