@@ -60,7 +60,10 @@ impl Input<'_> {
         let kept = hand.len();
         let mut stdin = self.stdin;
         let bytes = &mut *self.bytes;
-        bytes.copy_within(hand, 0);
+        // Bytes that are at the front already stay: a record that comes byte by byte would be moved at each read.
+        if 0 < hand.start {
+            bytes.copy_within(hand, 0);
+        }
         let got = stdin.read(&mut bytes[kept..]).unwrap_or(0);
         self.from = 0;
         self.to = kept + got;
