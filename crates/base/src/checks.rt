@@ -56,9 +56,8 @@ fn block_fits(kind: Kind, n: usize) -> bool
     }
 }
 
-/// What the two share: the limit and the verdict on the node count differ. A separator has the highest bit,
-/// which small ids lack: to join them takes half the instructions of comparing each, so a list is searched
-/// only where the joined bits have it.
+/// What the two share: the limit and the verdict on the node count differ.
+#[inline(always)]
 #[tactic(auto, unfolding(crate::specs::Checks::input_refusal, crate::specs::Checks::strays))]
 fn check_ids(kind: Kind, ids: &[u64], limit: usize, fits: bool) -> Result<(), Refusal>
     ensures { RefusedBy (input_refusal limit fits (number_of kind) ids.now) result }
@@ -69,7 +68,7 @@ fn check_ids(kind: Kind, ids: &[u64], limit: usize, fits: bool) -> Result<(), Re
     if !fits {
         return Err(Refusal::WrongNodeCount);
     }
-    if kind != Kind::Phed && HIGHEST_BIT <= all_bits(ids) && holds_separator(ids) {
+    if kind != Kind::Phed && holds_separator(ids) {
         return Err(Refusal::StraySeparator);
     }
     Ok(())
@@ -77,11 +76,46 @@ fn check_ids(kind: Kind, ids: &[u64], limit: usize, fits: bool) -> Result<(), Re
 
 const HIGHEST_BIT: u64 = 0x8000_0000_0000_0000;
 
+/// How many ids are joined at a time: more than a cell has, so that a cell's ids are compared at once.
+const PART: usize = 64;
+
 /// Whether a separator stands in the list.
 fn holds_separator(ids: &[u64]) -> bool
     ensures { result ≡ holds_separator ids.now }
 {
-    ids.contains(&Kind::SEPARATOR)
+    if PART <= ids.len() {
+        return long_holds_separator(ids);
+    }
+    finds_separator(ids)
+}
+
+/// The same for a long list. A separator has the highest bit, which small ids lack, and to join the bits of ids takes half
+/// the instructions of comparing each: so they are compared only from the first part on in which one has it. It stays out
+/// of its callers, most of whose lists are short.
+#[inline(never)]
+fn long_holds_separator(ids: &[u64]) -> bool
+    ensures { result ≡ holds_separator ids.now }
+{
+    let mut rest = ids;
+    while let Some((part, behind)) = rest.split_first_chunk::<PART>() {
+        if HIGHEST_BIT <= all_bits(part) {
+            return finds_separator(rest);
+        }
+        rest = behind;
+    }
+    finds_separator(rest)
+}
+
+/// The same by comparing. Like the loop below it reads all ids with no early end, so that it has no branch to mispredict
+/// and works on several ids at a time.
+fn finds_separator(ids: &[u64]) -> bool
+    ensures { result ≡ holds_separator ids.now }
+{
+    let mut found = false;
+    for id in ids {
+        found |= *id == Kind::SEPARATOR;
+    }
+    found
 }
 
 /// All bits of all ids.

@@ -63,15 +63,15 @@ fn long_refusal(kind: u64, bytes: &[u8]) -> Refusal
     Refusal::NoRule
 }
 
-/// Whether a separator stands among the ids that the bytes hold, which are not copied out to be checked as ids are.
+/// Whether a separator stands among the ids that the bytes hold, which are not copied out to be checked as ids are. It
+/// reads all with no early end, as base does.
 fn holds_separator(bytes: &[u8]) -> bool
     ensures { result ≡ holds_separator (ids_in (length bytes.now / 8) bytes.now) }
 {
     let (ids, _) = bytes.as_chunks::<ID>();
+    let mut found = false;
     for id in ids {
-        if u64::from_le_bytes(*id) == Kind::SEPARATOR {
-            return true;
-        }
+        found |= u64::from_le_bytes(*id) == Kind::SEPARATOR;
     }
-    false
+    found
 }
