@@ -1,5 +1,6 @@
 -- The walker's law: from a place on, the faces of a list are the next one, if there is one, and those from its end on.
-use Prim.Native.Nat.{ℕ, suc, ◌+◌, ◌-◌, ◌≤◌, ◌<◌}
+use Prim.Native.Nat.{ℕ, suc, ◌+◌, ◌-◌, ◌≤◌, ◌<◌, min}
+use Rattle.std.proofs.Common.{T, ltb, ltb→lt, nltb→le}
 use mathlib.Core.Path.{◌≡◌, refl, sym, ap, ◌∙◌}
 use mathlib.Core.List.{List, [], ◌∷◌}
 use mathlib.Core.Bool.{Bool, true, false, cond, not, beq}
@@ -10,8 +11,9 @@ use lib.ListN.{length, get_or, take, drop, drop_of_length-le, length-drop}
 use lib.Seq.{drop-cons, drop-drop, length-take-le}
 use lib.Dec.{eqb}
 use Rattle.base.specs.Kinds.{separator}
+use Rattle.faces.specs.declared.Face.{Face}
 use Rattle.faces.specs.Faces.{onto, runs, lead, full, faces}
-use Rattle.faces.specs.Inner.Walk.{Face, agree, span, start_of, end_of, next_face, part}
+use Rattle.faces.specs.Inner.Walk.{agree, span, start_of, end_of, next_face, part}
 
 pub span-le : (t : Bool) (l : List ℕ) → span t l ≤ length l
 unfolding span
@@ -150,22 +152,20 @@ module _ (l : List ℕ) (at : ℕ) (f : Face) (n : Next l at f) where
       let none : f.end - f.start ≡ 0 = omega arith in
       n.face ∙ rw none (no_more l f.end stop)
 
--- the ids behind the separators at the front
-abbrev pub rest : List ℕ → List ℕ
-rest l = drop (span true l) l
+-- from the front: a face that was found stands within the list and comes first, with the others behind its end
+pub first_face : (l : List ℕ) (f : Face) → f ≡ next_face l 0 → (f.start ≡ f.end → ⊥)
+    → (f.start ≤ f.end) × (f.end ≤ length l) × (faces l ≡ part l f.start f.end ∷ faces (drop f.end l))
+unfolding next_face span
+first_face [] f e ne = absurd (ne (rw e refl))
+first_face (x ∷ l) f e ne =
+    let n = next (x ∷ l) 0 (omega arith) f e in
+    (n.run, n.within, (next_found (x ∷ l) 0 f n ne).face)
 
--- where some are, they are the first face
-pub first_face : (l : List ℕ) → (span false (rest l) ≡ 0 → ⊥)
-    → faces l ≡ take (span false (rest l)) (rest l) ∷ faces (drop (span false (rest l)) (rest l))
-first_face l h =
-    sym (skip_faces l) ∙ run_face (rest l) ∙ lead-some _ _ (omega (arith, h, length-take-le _ (rest l) (span-le false (rest l))))
-
--- where none are, there is no face
-pub no_face : (l : List ℕ) → span false (rest l) ≡ 0 → faces l ≡ []
+-- and where none was found there is none
+pub no_face : (l : List ℕ) (f : Face) → f ≡ next_face l 0 → f.start ≡ f.end → faces l ≡ []
 unfolding faces runs full
-no_face l h =
-    let all : length l ≤ span true l = omega (arith, span_all l h) in
-    sym (skip_faces l) ∙ rw (drop_of_length-le l all)
+no_face [] f e none = refl
+no_face (x ∷ l) f e none = next_none (x ∷ l) 0 f (next (x ∷ l) 0 (omega arith) f e) none
 
 -- the test of an entry, as the walk makes it
 test_agrees : (t b r : Bool) → not (beq b t) ≡ r → agree t b ≡ not r
@@ -184,3 +184,18 @@ span_step separators l i stops h e = simp (add-one, drop-cons l i 0 h, test_agre
 pub span_end : (separators : Bool) (l : List ℕ) (i : ℕ) → length l ≤ i → span separators (drop i l) ≡ 0
 unfolding span
 span_end separators l i h = rw (drop_of_length-le l h)
+
+-- at the end of the list and behind it nothing stands
+pub span_from : (separators : Bool) (l : List ℕ) (at place : ℕ) → place ≡ min at (length l)
+    → span separators (drop place l) ≡ span separators (drop at l)
+span_from separators l at place e = go (ltb (length l) at) (ltb→lt (length l) at) (nltb→le (length l) at)
+  where
+    go : (t : Bool) → (T t → length l < at) → (T (not t) → at ≤ length l) → span separators (drop place l) ≡ span separators (drop at l)
+    go true past within =
+        let h : length l < at = past tt in
+        let p : length l ≤ place = omega (arith, e, h) in
+        let a : length l ≤ at = omega (arith, h) in
+        rw (drop_of_length-le l p, drop_of_length-le l a) refl
+    go false past within =
+        let h : at ≤ length l = within tt in
+        ap (λ (k : ℕ). span separators (drop k l)) (omega (arith, e, h))

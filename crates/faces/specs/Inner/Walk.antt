@@ -2,6 +2,7 @@
 use Rattle.std.specs.Prelude.{ℕ, suc, ◌+◌, ◌-◌, List, [], ◌∷◌, Bool, true, false, not, cond, take, drop, eqb}
 use Rattle.base.specs.Kinds.{separator}
 use Rattle.faces.specs.Faces.{faces}
+use Rattle.faces.specs.declared.Face.{Face}
 use Rattle.faces.specs.declared.Faces.{Faces}
 
 abbrev pub agree : Bool → Bool → Bool
@@ -12,11 +13,6 @@ agree false b = not b
 unfoldable pub span : Bool → List ℕ → ℕ
 span separators [] = 0
 span separators (x ∷ l) = cond (agree separators (eqb x separator)) (suc (span separators l)) 0
-
--- where a face stands in the list: from start up to, and not with, end; equal numbers are no face
-pub record Face : Type 0 where
-  pub start : ℕ
-  pub end : ℕ
 
 -- where the next face at or after a place starts and ends: after the separators there, and after its ids
 abbrev pub start_of : List ℕ → ℕ → ℕ
