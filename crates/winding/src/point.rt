@@ -106,7 +106,12 @@ impl<'a> Points<'a> {
 fn any_without(count: u64, ids: &[u64]) -> bool
     ensures { result ≡ any_without count ids.now }
 {
-    ids.iter().any(|id| count < id.wrapping_add(1))
+    for id in ids {
+        if count < id.wrapping_add(1) {
+            return true;
+        }
+    }
+    false
 }
 
 /// The point of an id in the plane.
