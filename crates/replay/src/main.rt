@@ -4,7 +4,6 @@
 
 ghost use Rattle.std.specs.Prelude.{◌<◌};
 
-use std::io;
 use std::io::{Stdin, Stdout};
 
 mod call;
@@ -20,8 +19,7 @@ use words::{LONGEST, fill, holds, of_patterns, read_full, read_words};
 fn main(rt: HostRuntime) {
     let mut counts = [Count::default(); 8];
     replay(rt.stdin(), &mut counts);
-    // An output that takes no more bytes can be told nothing.
-    let _ = report(rt.stdout(), &counts);
+    report(rt.stdout(), &counts);
 }
 
 /// Each stored call, counted at the number of its operation, or at 0 if it has none. A proved loop has to end,
@@ -71,8 +69,9 @@ fn repeats(stdin: Stdin, head: Head) -> bool {
     ids_read && points_read && answer == Some(head.answer) && same_out && same_ends
 }
 
-/// The names stand in the order of the numbers that `place` gives.
-fn report(stdout: Stdout, counts: &[Count; 8]) -> io::Result<()> {
+/// The names stand in the order of the numbers that `place` gives. A line that the output does not take keeps no later
+/// one from being tried.
+fn report(stdout: Stdout, counts: &[Count; 8]) {
     let names = [
         "no operation",
         "subentities",
@@ -85,8 +84,8 @@ fn report(stdout: Stdout, counts: &[Count; 8]) -> io::Result<()> {
     ];
     let mut all = Count::default();
     for (name, count) in names.iter().zip(counts) {
-        println!(stdout; "{name:<14} {count}")?;
+        let _ = println!(stdout; "{name:<14} {count}");
         all = all.and(*count);
     }
-    println!(stdout; "{:<14} {all}", "replay")
+    let _ = println!(stdout; "{:<14} {all}", "replay");
 }
