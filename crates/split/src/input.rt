@@ -19,11 +19,12 @@ pub struct Input<'a> {
 }
 
 impl Input<'_> {
-    ghost use Rattle.split.specs.Inner.Hand.{InHand};
+    ghost use Rattle.split.specs.Inner.Hand.{InHand, Kept};
 
     /// The record that comes next, for which is read what is missing.
     pub fn frame(&mut self) -> Frame
-        ensures { InHand self.new result }
+        ensures in_hand { InHand self.new result }
+        ensures kept { Kept self.old self.new }
     {
         // How often it has to read is not known before.
         loop {
@@ -54,7 +55,8 @@ impl Input<'_> {
 
     /// The bytes in hand to the front, and one read behind them; false at the end of the input, or where the read fails.
     fn refill(&mut self) -> bool
-        ensures { IsTrue result → self.old.to - self.old.from < self.new.to - self.new.from }
+        ensures more { IsTrue result → self.old.to - self.old.from < self.new.to - self.new.from }
+        ensures kept { Kept self.old self.new }
     {
         let hand = self.from..self.to;
         let kept = hand.len();
